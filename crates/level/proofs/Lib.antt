@@ -1,0 +1,5 @@
+pub mod Powers
+mod Squarings
+pub mod Laws
+mod Tight
+mod Window

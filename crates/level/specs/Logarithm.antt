@@ -1,0 +1,57 @@
+-- The level logarithm: document 01, "The level logarithm".
+use mathlib.Core.Bool.{Bool, cond, _&&_}
+use mathlib.Core.Option.{Option, none, some}
+use Prim.Native.Nat.{ℕ, zero, suc, _+_, _*_, _/_, _^_, _≤_, _<_}
+use lib.Dec.{leb}
+use lib.IntN.{ℤ, pos}
+use Rattle.level.specs.declared.Level.{Level}
+use Rattle.level.specs.declared.Level.the-variants.{At, None}
+use Rattle.level.specs.declared.Squares.{Squares}
+
+-- the highest of the places 0 to k whose power of two is not above n
+unfoldable pub placeUpTo : ℕ → ℕ → ℕ
+placeUpTo zero n = 0
+placeUpTo (suc k) n = cond (leb (2 ^ suc k) n) (suc k) (placeUpTo k n)
+
+-- b, the place of n's highest one bit (the lowest place is 0), for n from 1 to 2^80
+unfoldable pub place : ℕ → ℕ
+place n = placeUpTo 80 n
+
+-- m, before the first of the twelve times
+unfoldable pub start : ℕ → ℕ
+start n = n * 2 ^ 31 / 2 ^ place n
+
+-- with t = m·m: the bit that is written, and the next m
+unfoldable pub bit : ℕ → ℕ
+bit t = cond (leb (2 ^ 63) t) 1 0
+
+unfoldable pub next : ℕ → ℕ
+next t = cond (leb (2 ^ 63) t) (t / 2 ^ 32) (t / 2 ^ 31)
+
+-- the number that the bits written in k times spell, first bit highest
+unfoldable pub spell : ℕ → ℕ → ℕ
+spell zero m = 0
+spell (suc k) m = bit (m * m) * 2 ^ k + spell k (next (m * m))
+
+-- lev(n), for n from 1 to 2^80
+unfoldable pub lev : ℕ → ℕ
+lev n = 4096 * place n + spell 12 (start n)
+
+-- the level of any n: none for 0 and above 2^80
+unfoldable pub levelOf : ℕ → Option ℤ
+levelOf n = cond (leb 1 n && leb n (2 ^ 80)) (some (pos (lev n))) none
+
+-- what each case of an answer says: a level in steps, or that there is none
+unfoldable pub valueOf : Level → Option ℤ
+valueOf (At s) = some (s .0)
+valueOf None = none
+
+-- the number that two words hold
+abbrev pub number : Squares → ℕ
+number q = q .high * 2 ^ 64 + q .low
+
+-- the three facts that the meter rests on
+pub record Facts (lev : ℕ → ℕ) : Type 0 where
+  pub never-falls : (m n : ℕ) → 1 ≤ m → m ≤ n → n ≤ 2 ^ 80 → lev m ≤ lev n
+  pub at-most : (n : ℕ) → 1 ≤ n → n ≤ 2 ^ 80 → 2 ^ lev n ≤ n ^ 4096
+  pub less-than : (n : ℕ) → 1 ≤ n → n ≤ 2 ^ 80 → n ^ 4096 < 2 ^ (lev n + 2)

@@ -1,0 +1,60 @@
+-- What the crates above know of a named rate, whichever it is: `named-keeps` and `named-code`. Only this file goes through the table's rows.
+use mathlib.Core.Bool.{Bool, true, false, cond}
+use mathlib.Core.Option.{Option, none, some}
+use mathlib.Core.Path.{_≡_, refl, sym, subst}
+use Prim.Native.Nat.{ℕ, _+_, _*_, _^_, _≤_, _<_}
+use native.Mathlib.Omega.{arith}
+use native.Mathlib.Nat.{lt-of-not-le, not-le-of-lt, mul-le-mul-right}
+use borrow.Author.Tests.{eqb-true}
+use lib.Dec.{eqb}
+use Rattle.rate.specs.declared.Rate.{Rate}
+use Rattle.rate.specs.Rates.{hz694, hz8000, hz16000, rateOf, Ceiling, Keeps}
+
+-- P of the rate, where there is one
+Of : (Rate → Type 0) → Option Rate → Type 0
+Of P none = Unit {0}
+Of P (some r) = P r
+
+by-test : (P : Rate → Type 0) (b : Bool) (r : Rate) (o : Option Rate) → (b ≡ true → P r) → Of P o → Of P (cond b (some r) o)
+unfolding Of
+by-test P true r o p q = p refl
+by-test P false r o p q = q
+
+-- what holds of each row, at its code, holds of the rate that a code names
+each-row : (P : ℕ → Rate → Type 0) → P 1 hz694 → P 2 hz8000 → P 3 hz16000 → (code : ℕ) (r : Rate) → rateOf code ≡ some r → P code r
+unfolding rateOf Of
+each-row P one two three code r e =
+    subst (Of (P code)) e
+    (by-test (P code) (eqb code 1) _ _ (at 1 _ one)
+    (by-test (P code) (eqb code 2) _ _ (at 2 _ two)
+    (by-test (P code) (eqb code 3) _ _ (at 3 _ three) tt)))
+  where
+    at : (c : ℕ) (r : Rate) → P c r → eqb code c ≡ true → P code r
+    at c r p h = subst (λ (x : ℕ). P x r) (sym (eqb-true code c h)) p
+
+-- a number that is not below a/b, and less than one above it
+ceiling : {a b c : ℕ} → a ≤ c * b → c * b < a + b → Ceiling a b c
+ceiling {a} {b} {c} low high = record { not-below = low; smallest = λ x h. omega (arith, lt-of-not-le (below x h)) }
+  where
+    below : (x : ℕ) → a ≤ x * b → x + 1 ≤ c → ⊥
+    below x h g = let p : (x + 1) * b ≤ c * b = mul-le-mul-right b g in not-le-of-lt high (omega arith)
+
+-- the rules as comparisons of numerals
+abbrev Figures : Rate → Type 0
+Figures r =
+    (1 ≤ r .k)
+    × (r .k ≤ 2 ^ 20)
+    × (r .hertz ≤ r .i * 5)
+    × (r .i * 5 < r .hertz + 5)
+    × (2 ^ 21 ≤ r .d * r .k)
+    × (r .d * r .k < 2 ^ 21 + r .k)
+
+keeps : (r : Rate) → Figures r → Keeps r
+keeps r f = record { k-low = f .0; k-high = f .1; i-rule = ceiling (f .2) (f .3); d-rule = ceiling (f .4) (f .5) }
+
+pub named-keeps : (code : ℕ) (r : Rate) → rateOf code ≡ some r → Keeps r
+named-keeps =
+    each-row (λ code r. Keeps r) (keeps hz694 (omega arith)) (keeps hz8000 (omega arith)) (keeps hz16000 (omega arith))
+
+pub named-code : (code : ℕ) (r : Rate) → rateOf code ≡ some r → r .code ≡ code
+named-code = each-row (λ code r. r .code ≡ code) refl refl refl

@@ -1,0 +1,22 @@
+-- The number that document 01, "Why a call is refused", gives each refusal.
+use Prim.Native.Nat.{ℕ}
+use Rattle.refusal.specs.declared.Refusal.{Refusal}
+use Rattle.refusal.specs.declared.Refusal.the-variants.{UnnamedRate, ImpossibleMeter, LongChunk, BlockLength, BlockCheck, BlockKind, BlockRate, BlockCount, BlockUnused, BlockPlace, TooManySamples, NoSamples, NoSignal, NoActivity, NoCrossingBelow, NoCrossingAbove}
+
+abbrev pub numberOf : Refusal → ℕ
+numberOf UnnamedRate = 1
+numberOf ImpossibleMeter = 2
+numberOf LongChunk = 3
+numberOf BlockLength = 4
+numberOf BlockCheck = 5
+numberOf BlockKind = 6
+numberOf BlockRate = 7
+numberOf BlockCount = 8
+numberOf BlockUnused = 9
+numberOf BlockPlace = 10
+numberOf TooManySamples = 11
+numberOf NoSamples = 12
+numberOf NoSignal = 13
+numberOf NoActivity = 14
+numberOf NoCrossingBelow = 15
+numberOf NoCrossingAbove = 16

@@ -1,0 +1,63 @@
+// Why a call is refused (document 01, "Why a call is refused"): one list for the whole project.
+ghost use mathlib.Core.Path.{_≡_};
+ghost use Rattle.refusal.specs.Number.{numberOf};
+
+// Each reason under its own name. Its number is the one that the host is given.
+pub enum Refusal {
+    // 1: opening with a code that names no rate
+    UnnamedRate,
+    // 2: a meter that no measurement could hold
+    ImpossibleMeter,
+    // 3: a chunk of more than 4096 samples
+    LongChunk,
+    // 4: a block that is not 512 bytes long
+    BlockLength,
+    // 5: a check word of the block is wrong
+    BlockCheck,
+    // 6: the block is of another kind
+    BlockKind,
+    // 7: the block's rate code is not the one expected
+    BlockRate,
+    // 8: the block's count of samples is out of range
+    BlockCount,
+    // 9: an unused byte of the block is not zero
+    BlockUnused,
+    // 10: the block does not follow the samples measured so far
+    BlockPlace,
+    // 11: more samples than a measurement may hold
+    TooManySamples,
+    // 12: nothing was measured
+    NoSamples,
+    // 13: every sample was zero
+    NoSignal,
+    // 14: the envelope never came up to the lowest threshold
+    NoActivity,
+    // 15: no crossing, since the level starts below the margin over the lowest threshold
+    NoCrossingBelow,
+    // 16: no crossing, since the level stays above the margin over every threshold reached
+    NoCrossingAbove,
+}
+
+// The number of a refusal.
+pub fn number(why: Refusal) -> u32
+    ensures { λ r. ⌜ r ≡ numberOf why ⌝ }
+{
+    match why {
+        Refusal::UnnamedRate => 1,
+        Refusal::ImpossibleMeter => 2,
+        Refusal::LongChunk => 3,
+        Refusal::BlockLength => 4,
+        Refusal::BlockCheck => 5,
+        Refusal::BlockKind => 6,
+        Refusal::BlockRate => 7,
+        Refusal::BlockCount => 8,
+        Refusal::BlockUnused => 9,
+        Refusal::BlockPlace => 10,
+        Refusal::TooManySamples => 11,
+        Refusal::NoSamples => 12,
+        Refusal::NoSignal => 13,
+        Refusal::NoActivity => 14,
+        Refusal::NoCrossingBelow => 15,
+        Refusal::NoCrossingAbove => 16,
+    }
+}
