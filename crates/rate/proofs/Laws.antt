@@ -1,14 +1,16 @@
 -- What the crates above know of a named rate, whichever it is: `named-keeps` and `named-code`. Only this file goes through the table's rows.
 use mathlib.Core.Bool.{Bool, true, false, cond}
 use mathlib.Core.Option.{Option, none, some}
-use mathlib.Core.Path.{_≡_, refl, sym, subst}
+use mathlib.Core.Path.{_≡_, refl, sym, ap, subst, _∙_}
 use Prim.Native.Nat.{ℕ, _+_, _*_, _^_, _≤_, _<_}
 use native.Mathlib.Omega.{arith}
 use native.Mathlib.Nat.{lt-of-not-le, not-le-of-lt, mul-le-mul-right}
 use borrow.Author.Tests.{eqb-true}
 use lib.Dec.{eqb}
 use Rattle.rate.specs.declared.Rate.{Rate}
-use Rattle.rate.specs.Rates.{hz694, hz8000, hz16000, rateOf, Ceiling, Keeps}
+use Rattle.rate.specs.declared.Named.{Named}
+use Rattle.rate.specs.declared.Named.the-variants.{As, Nothing}
+use Rattle.rate.specs.Rates.{hz694, hz8000, hz16000, rateOf, isSome, isNamed, named, Ceiling, Keeps}
 
 -- P of the rate, where there is one
 Of : (Rate → Type 0) → Option Rate → Type 0
@@ -58,3 +60,21 @@ named-keeps =
 
 pub named-code : (code : ℕ) (r : Rate) → rateOf code ≡ some r → r .code ≡ code
 named-code = each-row (λ code r. r .code ≡ code) refl refl refl
+
+-- ---- what an answer tells of its code
+
+pub named-as : (code : ℕ) (n : Named) (r : Rate) → named n ≡ rateOf code → n ≡ As r → rateOf code ≡ some r
+unfolding named
+named-as code n r e f = sym e ∙ ap named f
+
+pub named-nothing : (code : ℕ) (n : Named) → named n ≡ rateOf code → n ≡ Nothing → rateOf code ≡ none
+unfolding named
+named-nothing code n e f = sym e ∙ ap named f
+
+pub is-named : (code : ℕ) (r : Rate) → rateOf code ≡ some r → isNamed code ≡ true
+unfolding isNamed
+is-named code r e = ap isSome e
+
+pub is-not-named : (code : ℕ) → rateOf code ≡ none → isNamed code ≡ false
+unfolding isNamed
+is-not-named code e = ap isSome e

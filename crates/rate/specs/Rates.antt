@@ -1,5 +1,5 @@
 -- The named rates: document 01, "Rates".
-use mathlib.Core.Bool.{cond}
+use mathlib.Core.Bool.{Bool, true, false, cond}
 use mathlib.Core.Option.{Option, none, some}
 use Prim.Native.Nat.{ℕ, _*_, _^_, _≤_}
 use lib.Dec.{eqb}
@@ -17,6 +17,10 @@ hz8000 = record { code = 2; hertz = 8000; k = 4360; i = 1600; d = 481 }
 abbrev pub hz16000 : Rate
 hz16000 = record { code = 3; hertz = 16000; k = 2182; i = 3200; d = 962 }
 
+abbrev pub isSome : Option Rate → Bool
+isSome none = false
+isSome (some r) = true
+
 -- the rate that a code names, if any
 unfoldable pub rateOf : ℕ → Option Rate
 rateOf code =
@@ -24,6 +28,10 @@ rateOf code =
     (cond (eqb code 2) (some hz8000)
     (cond (eqb code 3) (some hz16000)
     none))
+
+-- whether a code names a rate
+unfoldable pub isNamed : ℕ → Bool
+isNamed code = isSome (rateOf code)
 
 -- what each case of an answer says: a rate, or that there is none
 unfoldable pub named : Named → Option Rate

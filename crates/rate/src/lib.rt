@@ -1,6 +1,6 @@
 // The named rates (document 01, "Rates").
 ghost use mathlib.Core.Path.{_≡_};
-ghost use Rattle.rate.specs.Rates.{named, rateOf};
+ghost use Rattle.rate.specs.Rates.{named, rateOf, isNamed};
 
 // A rate: its code, its samples a second, the smoothing figure K, the hangover I in samples, and
 // D, the envelope's error bound in units of 2^-24 quantizing interval.
@@ -53,5 +53,15 @@ impl Rate {
             3 => Named::As(Rate::HZ_16000),
             _ => Named::Nothing,
         }
+    }
+}
+
+// Whether a code names a rate.
+pub fn is_named(code: u32) -> bool
+    ensures { λ r. ⌜ r ≡ isNamed code ⌝ }
+{
+    match Rate::of(code) {
+        Named::As(_) => true,
+        Named::Nothing => false,
     }
 }

@@ -1,8 +1,11 @@
--- The number that document 01, "Why a call is refused", gives each refusal.
+-- The numbers of document 01, "Why a call is refused".
 use Prim.Native.Nat.{ℕ}
 use Rattle.refusal.specs.declared.Refusal.{Refusal}
+use Rattle.refusal.specs.declared.Answer.{Answer}
+use Rattle.refusal.specs.declared.Answer.the-variants.{Accepted, Refused}
 use Rattle.refusal.specs.declared.Refusal.the-variants.{UnnamedRate, ImpossibleMeter, LongChunk, BlockLength, BlockCheck, BlockKind, BlockRate, BlockCount, BlockUnused, BlockPlace, TooManySamples, NoSamples, NoSignal, NoActivity, NoCrossingBelow, NoCrossingAbove}
 
+-- the number of each refusal
 abbrev pub numberOf : Refusal → ℕ
 numberOf UnnamedRate = 1
 numberOf ImpossibleMeter = 2
@@ -20,3 +23,8 @@ numberOf NoSignal = 13
 numberOf NoActivity = 14
 numberOf NoCrossingBelow = 15
 numberOf NoCrossingAbove = 16
+
+-- the number of each answer to a call
+abbrev pub numberGiven : Answer → ℕ
+numberGiven Accepted = 0
+numberGiven (Refused why) = numberOf why

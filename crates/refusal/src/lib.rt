@@ -1,6 +1,6 @@
 // Why a call is refused (document 01, "Why a call is refused"): one list for the whole project.
 ghost use mathlib.Core.Path.{_≡_};
-ghost use Rattle.refusal.specs.Number.{numberOf};
+ghost use Rattle.refusal.specs.Number.{numberOf, numberGiven};
 
 // Each reason under its own name. Its number is the one that the host is given.
 pub enum Refusal {
@@ -36,6 +36,22 @@ pub enum Refusal {
     NoCrossingBelow,
     // 16: no crossing, since the level stays above the margin over every threshold reached
     NoCrossingAbove,
+}
+
+// What a call answers.
+pub enum Answer {
+    Accepted,
+    Refused(Refusal),
+}
+
+// The number of an answer: 0 where the call is accepted.
+pub fn given(answer: Answer) -> u32
+    ensures { λ r. ⌜ r ≡ numberGiven answer ⌝ }
+{
+    match answer {
+        Answer::Accepted => 0,
+        Answer::Refused(why) => number(why),
+    }
 }
 
 // The number of a refusal.

@@ -2,7 +2,8 @@
 //
 // A record is a byte for its kind and then the fields of that kind, numbers little-endian:
 //
-//   7 lev    high u64, low u64    prints `lev v`, or `lev none`
+//   7 lev      high u64, low u64               prints `lev v`, or `lev none`
+//   8 check    code u8, length u16, bytes      prints `check r`, the C host's answer
 //
 // A record that is cut short, or of another kind, prints `bad record k`, k counting records from 1,
 // and ends the run.

@@ -1,5 +1,7 @@
 // The records, each played by its own function, which answers whether the record was whole.
 use crate::input;
+use crate::input::Byte;
+use crate::input::Half;
 use crate::input::Word;
 use level::Level;
 use level::Squares;
@@ -7,6 +9,7 @@ use level::Squares;
 pub fn played(kind: u8) -> bool {
     match kind {
         7 => lev(),
+        8 => check(),
         _ => false,
     }
 }
@@ -24,6 +27,26 @@ fn lev() -> bool {
         Level::At(steps) => print::signed(steps.0),
         Level::None => print::words(b"none"),
     }
+    print::end_of_line();
+    true
+}
+
+// 8: the C host's check of a block.
+fn check() -> bool {
+    let Byte::Is(code) = input::next_byte() else {
+        return false;
+    };
+    let Half::Is(length) = input::next_half() else {
+        return false;
+    };
+    let mut buffer = io::large_buffer();
+    let n = length as usize;
+    if !input::filled(&mut buffer[..n]) {
+        return false;
+    }
+    let number = block::hoggetwhirl_check_block(&buffer[..n], code as u32);
+    print::words(b"check ");
+    print::unsigned(number as u64);
     print::end_of_line();
     true
 }

@@ -1,0 +1,72 @@
+-- Each condition of a refusal, from the fact that a test of the code leaves.
+use mathlib.Core.Bool.{Bool, true, false, not, _&&_}
+use mathlib.Core.List.{List}
+use mathlib.Core.Path.{_≡_, refl, sym, ap, _∙_}
+use Prim.Native.Nat.{ℕ, _+_, _-_, _*_, _≤_, _<_}
+use borrow.Author.Tests.{eq-eqb, ne-eqb, le-leb, lt-leb, not-true, not-false}
+use lib.Dec.{eqb, leb}
+use lib.ListN.{length}
+use Rattle.block.specs.Block.{number, kind, rateCode, count, checkSum, weightedSum}
+use Rattle.block.specs.Refusals.{wrongLength, wrongCheck, wrongKind, wrongRate, wrongCount, usedUnused, zeros}
+
+not-not : (b : Bool) → b ≡ not (not b)
+not-not true = refl
+not-not false = refl
+
+-- what a condition is, from the code's test of its opposite
+pub applies : (t b : Bool) → t ≡ not b → t ≡ false → b ≡ true
+applies t b e h = not-not b ∙ ap not (sym e ∙ h)
+
+pub passes : (t b : Bool) → t ≡ not b → t ≡ true → b ≡ false
+passes t b e h = not-not b ∙ ap not (sym e ∙ h)
+
+module _ (b : List ℕ) where
+  pub length-off : (length b ≡ 512 → ⊥) → wrongLength b ≡ true
+  unfolding wrongLength
+  length-off f = ap not (ne-eqb (length b) 512 f)
+
+  pub length-right : length b ≡ 512 → wrongLength b ≡ false
+  unfolding wrongLength
+  length-right e = ap not (eq-eqb (length b) 512 e)
+
+  pub first-off : (number b 508 2 ≡ checkSum b → ⊥) → false ≡ not (wrongCheck b)
+  unfolding wrongCheck
+  first-off f = sym (simp (ne-eqb (number b 508 2) (checkSum b) f))
+
+  pub first-right : number b 508 2 ≡ checkSum b → eqb (number b 510 2) (weightedSum b) ≡ not (wrongCheck b)
+  unfolding wrongCheck
+  first-right e =
+      sym (ap (λ (x : Bool). x && eqb (number b 510 2) (weightedSum b)) (eq-eqb (number b 508 2) (checkSum b) e))
+      ∙ not-not (eqb (number b 508 2) (checkSum b) && eqb (number b 510 2) (weightedSum b))
+
+  pub kind-off : (kind b ≡ 1 → ⊥) → wrongKind b ≡ true
+  unfolding wrongKind
+  kind-off f = ap not (ne-eqb (kind b) 1 f)
+
+  pub kind-right : kind b ≡ 1 → wrongKind b ≡ false
+  unfolding wrongKind
+  kind-right e = ap not (eq-eqb (kind b) 1 e)
+
+  pub rate-off : (code : ℕ) → (rateCode b ≡ code → ⊥) → wrongRate b code ≡ true
+  unfolding wrongRate
+  rate-off code f = ap not (ne-eqb (rateCode b) code f)
+
+  pub rate-right : (code : ℕ) → rateCode b ≡ code → wrongRate b code ≡ false
+  unfolding wrongRate
+  rate-right code e = ap not (eq-eqb (rateCode b) code e)
+
+  pub count-low : count b < 1 → wrongCount b ≡ true
+  unfolding wrongCount
+  count-low h = simp (lt-leb 1 (count b) h)
+
+  pub count-high : 1 ≤ count b → 248 < count b → wrongCount b ≡ true
+  unfolding wrongCount
+  count-high l h = simp (le-leb 1 (count b) l, lt-leb (count b) 248 h)
+
+  pub count-right : 1 ≤ count b → count b ≤ 248 → wrongCount b ≡ false
+  unfolding wrongCount
+  count-right l h = simp (le-leb 1 (count b) l, le-leb (count b) 248 h)
+
+  pub unused-is : (at : ℕ) → at ≡ 12 + 2 * count b → zeros b at (508 - at) ≡ not (usedUnused b)
+  unfolding usedUnused
+  unused-is at e = ap (λ (x : ℕ). zeros b x (508 - x)) e ∙ not-not (zeros b (12 + 2 * count b) (508 - (12 + 2 * count b)))

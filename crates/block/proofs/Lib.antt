@@ -1,0 +1,3 @@
+mod Conditions
+pub mod Laws
+mod Numbers

@@ -1,0 +1,65 @@
+-- Numbers of one byte and of two, and the loops over a block's bytes and words, a turn each.
+use mathlib.Core.Bool.{Bool, true, false, _&&_}
+use mathlib.Core.List.{List}
+use mathlib.Core.Path.{_≡_, refl, sym, ap, ap₂, _∙_}
+use Prim.Native.Nat.{ℕ, zero, suc, _+_, _-_, _*_, _^_, _≤_, _<_}
+use native.Mathlib.Omega.{arith}
+use native.Mathlib.Nat.{mul-le-mul}
+use native.Mathlib.Numerals.{add-one}
+use borrow.Author.Tests.{eq-eqb, ne-eqb}
+use lib.Dec.{eqb}
+use lib.ListN.{getD}
+use Rattle.block.specs.Block.{number, kind, rateCode, count, word, sumBelow}
+use Rattle.block.specs.Refusals.{zeros}
+
+pub one-byte : (b : List ℕ) (at : ℕ) → getD b at 0 ≡ number b at 1
+unfolding number
+one-byte b at = omega arith
+
+pub two-bytes : (b : List ℕ) (at : ℕ) → getD b at 0 + 256 * getD b (at + 1) 0 ≡ number b at 2
+unfolding number
+two-bytes b at = omega arith
+
+pub kind-is : (b : List ℕ) → getD b 0 0 ≡ kind b
+unfolding kind
+kind-is b = one-byte b 0
+
+pub rate-code-is : (b : List ℕ) → getD b 1 0 ≡ rateCode b
+unfolding rateCode
+rate-code-is b = one-byte b 1
+
+pub count-is : (b : List ℕ) → number b 2 2 ≡ count b
+unfolding count
+count-is b = refl
+
+-- ---- a run of zeros
+
+zeros-suc : (b : List ℕ) (at k : ℕ) → 0 < k → zeros b at k ≡ eqb (getD b at 0) 0 && zeros b (at + 1) (k - 1)
+unfolding zeros
+zeros-suc b at k h = let whole : k ≡ suc (k - 1) = omega arith in ap (zeros b at) whole
+
+pub zeros-end : (b : List ℕ) (at k : ℕ) → k ≡ 0 → true ≡ zeros b at k
+unfolding zeros
+zeros-end b at k e = sym (ap (zeros b at) e)
+
+pub zeros-stop : (b : List ℕ) (at k : ℕ) → 0 < k → (getD b at 0 ≡ 0 → ⊥) → zeros b at k ≡ false
+zeros-stop b at k h f = zeros-suc b at k h ∙ simp (ne-eqb (getD b at 0) 0 f)
+
+pub zeros-on : (b : List ℕ) (at k : ℕ) → 0 < k → getD b at 0 ≡ 0 → zeros b (at + 1) (k - 1) ≡ zeros b at k
+zeros-on b at k h e = sym (zeros-suc b at k h ∙ simp (eq-eqb (getD b at 0) 0 e))
+
+-- ---- a sum
+
+pub sum-zero : (f : ℕ → ℕ) → 0 ≡ sumBelow f 0
+unfolding sumBelow
+sum-zero f = refl
+
+pub sum-more : (f : ℕ → ℕ) (k sum x : ℕ) → sum ≡ sumBelow f k → x ≡ f k → sum + x ≡ sumBelow f (k + 1)
+unfolding sumBelow
+sum-more f k sum x e g = ap₂ (λ (y z : ℕ). y + z) e g ∙ sym (ap (sumBelow f) (add-one k))
+
+pub weight-small : (i w : ℕ) → w < 2 ^ 16 → (254 - i) * w ≤ 254 * 65535
+weight-small i w h =
+    let p : 254 - i ≤ 254 = omega arith in
+    let q : w ≤ 65535 = omega arith in
+    mul-le-mul p q

@@ -1,0 +1,90 @@
+// Sample blocks (document 01, "Sample blocks"): why one is refused, the part that carries its
+// samples, and the check that the line host calls.
+mod checks;
+mod fields;
+
+ghost use mathlib.Core.List.{[], _∷_};
+ghost use mathlib.Core.Path.{_≡_};
+ghost use lib.ListN.{length};
+ghost use Rattle.refusal.specs.First.{firstOf};
+ghost use Rattle.refusal.specs.Number.{numberGiven};
+ghost use Rattle.block.specs.Refusals.{wrongCount, usedUnused, blockRules, sound, samplesPart, hostCheck};
+use refusal::Answer;
+use refusal::Refusal;
+
+// The part of a sound block that carries its samples, two bytes for each; of any other the empty
+// part.
+pub fn samples_part(block: &[u8]) -> &[u8]
+    ensures { λ r. ⌜ now r ≡ samplesPart (now (block .entry)) ⌝ }
+{
+    if !is_sound(block) {
+        return &block[0..0];
+    }
+    let end = 12 + 2 * fields::word(block, 2);
+    &block[12..end]
+}
+
+// Whether a block is sound: its own rate code is a named one, and nothing but 7 could refuse it.
+fn is_sound(block: &[u8]) -> bool
+    ensures { λ r. ⌜ r ≡ sound (now (block .entry)) ⌝ }
+{
+    if block.len() != 512 {
+        return false;
+    }
+    let code = fields::rate_code(block);
+    if !rate::is_named(code) {
+        return false;
+    }
+    match refused(block, code) {
+        Answer::Accepted => true,
+        Answer::Refused(_) => false,
+    }
+}
+
+// The first of refusals 4 to 9 that applies to a block, 7 read against the given code.
+pub fn refused(block: &[u8], code: u32) -> Answer
+    ensures { λ r. ⌜ numberGiven r ≡ firstOf (blockRules (now (block .entry)) code) ⌝ }
+{
+    if block.len() != 512 {
+        return Answer::Refused(Refusal::BlockLength);
+    }
+    if !checks::checked(block) {
+        return Answer::Refused(Refusal::BlockCheck);
+    }
+    if fields::kind(block) != 1 {
+        return Answer::Refused(Refusal::BlockKind);
+    }
+    if fields::rate_code(block) != code {
+        return Answer::Refused(Refusal::BlockRate);
+    }
+    refused_count(block)
+}
+
+// The first of refusals 8 and 9 that applies to a block of 512 bytes.
+fn refused_count(block: &[u8]) -> Answer
+    requires { ⌜ length (now block) ≡ 512 ⌝ }
+    ensures { λ r. ⌜ numberGiven r ≡ firstOf ((8, wrongCount (now (block .entry))) ∷ ((9, usedUnused (now (block .entry))) ∷ [])) ⌝ }
+{
+    let count = fields::word(block, 2);
+    if count < 1 {
+        return Answer::Refused(Refusal::BlockCount);
+    }
+    if 248 < count {
+        return Answer::Refused(Refusal::BlockCount);
+    }
+    if !fields::zeros_from(block, 12 + 2 * count) {
+        return Answer::Refused(Refusal::BlockUnused);
+    }
+    Answer::Accepted
+}
+
+// The check for the line host, which is written in C: include/hoggetwhirl.h describes it.
+#[no_mangle]
+pub extern "C" fn hoggetwhirl_check_block(block: &[u8], code: u32) -> u32
+    ensures { λ r. ⌜ r ≡ hostCheck (now (block .entry)) code ⌝ }
+{
+    if !rate::is_named(code) {
+        return refusal::number(Refusal::UnnamedRate);
+    }
+    refusal::given(refused(block, code))
+}

@@ -1,0 +1,178 @@
+//! The worked figures, and a few further ones.
+
+use crate::block;
+use crate::level::lev;
+use crate::meter::{Meter, Report};
+use crate::rate::RATES;
+use crate::records::words;
+use crate::tally::Tally;
+
+/// Every figure; whether none failed.
+pub fn figures() -> bool {
+    let mut tally = Tally::new();
+    rates(&mut tally);
+    levels(&mut tally);
+    samples(&mut tally);
+    reports(&mut tally);
+    bounds(&mut tally);
+    program(&mut tally);
+    exact_threshold(&mut tally);
+    further_reports(&mut tally);
+    tally.finish()
+}
+
+/// The table of rates, and T within its tolerance (document 01, "Rates").
+fn rates(tally: &mut Tally) {
+    let table = [
+        (1, 694, 49174, 139, 43),
+        (2, 8000, 4360, 1600, 481),
+        (3, 16000, 2182, 3200, 962),
+    ];
+    for (rate, row) in RATES.iter().zip(table) {
+        let found = (rate.code, rate.samples_per_second, rate.K, rate.I, rate.D());
+        tally.equal("rate", found, row);
+        tally.equal("I by its rule", rate.I_by_rule(), rate.I);
+        tally.holds(
+            &format!("rate {}: T within 5 %", rate.code),
+            rate.keeps_time_constant(),
+        );
+    }
+}
+
+/// The rows of lev (document 01, "Worked figures"), and the edges of its range.
+fn levels(tally: &mut Tally) {
+    let rows = [
+        (1, 0),
+        (2, 4096),
+        (3, 6492),
+        (5, 9510),
+        (7, 11498),
+        (10, 13606),
+        ((1 << 32) - 1, 131071),
+        (1 << 78, 319488),
+        (1 << 80, 327680),
+    ];
+    for (N, level) in rows {
+        tally.equal(&format!("lev({N})"), lev(N), Some(level));
+    }
+    for N in [0, (1 << 80) + 1, u128::MAX] {
+        tally.equal(&format!("lev({N})"), lev(N), None);
+    }
+}
+
+/// The rows of one sample (document 01, "Worked figures").
+fn samples(tally: &mut Tally) {
+    let (meter, r) = Meter::open(2).0.chunk(&[32767]);
+    tally.equal(
+        "32767 at code 2",
+        (r, meter.P, meter.Q),
+        (0, 2285825920, 9504509),
+    );
+    tally.equal("32767 at code 2, report", meter.report(), Err(14));
+    let (meter, r) = Meter::open(2).0.chunk(&[-1]);
+    tally.equal("-1 at code 2", (r, meter.P, meter.Q), (0, 69760, 290));
+}
+
+/// A meter handed in at code 2, its first a_j given (document 01, "Worked figures").
+fn handed_in(n: u64, sq: u128, a: &[u64]) -> Meter {
+    let mut meter = Meter {
+        code: 2,
+        n,
+        sq,
+        ..Meter::zero()
+    };
+    meter.a[..a.len()].copy_from_slice(a);
+    meter
+}
+
+/// The rows of reports (document 01, "Worked figures").
+fn reports(tally: &mut Tally) {
+    let found = handed_in(16384, 1 << 30, &[4096; 8]).report();
+    let report = Report {
+        L: 65536,
+        A: 73728,
+        C: 52093,
+        F: -8192,
+        lower: 6,
+        upper: 7,
+    };
+    tally.equal("a_7 4096", found, Ok(report));
+
+    let a = [4096, 4096, 4096, 4096, 4096, 4096, 4096, 2048];
+    let found = handed_in(16384, 1 << 30, &a).report();
+    let report = Report {
+        L: 65536,
+        A: 76669,
+        C: 55034,
+        F: -11133,
+        lower: 6,
+        upper: 7,
+    };
+    tally.equal("a_7 2048", found, Ok(report));
+
+    let found = handed_in(32768, 1275068, &[32768]).report();
+    let report = Report {
+        L: 21635,
+        A: 21635,
+        C: 0,
+        F: 0,
+        lower: 0,
+        upper: 0,
+    };
+    tally.equal("d_0 zero", found, Ok(report));
+
+    let found = handed_in(32768, 1 << 20, &[32768]).report();
+    tally.equal("d_0 negative", found, Err(15));
+}
+
+/// The rows of the bounds on n and on a chunk (document 01, "Worked figures").
+fn bounds(tally: &mut Tally) {
+    let full = handed_in(1 << 48, 0, &[]);
+    tally.equal("n 2^48, one sample", full.chunk(&[0]).1, 11);
+    tally.equal("n 2^48, empty chunk", full.chunk(&[]).1, 0);
+    let fresh = Meter::open(2).0;
+    tally.equal("chunk of 4096", fresh.chunk(&[0; 4096]).1, 0);
+    tally.equal("chunk of 4097", fresh.chunk(&[0; 4097]).1, 3);
+}
+
+/// The example of the report program (document 01, "Worked figures").
+fn program(tally: &mut Tally) {
+    let (meter, r) = Meter::open(1).0.block(&block::make(1, 0, &[32767]));
+    tally.equal("example, block", r, 0);
+    tally.equal("example, samples", meter.n, 1);
+    tally.equal("example, sum", meter.s, 32767);
+    tally.equal("example, squares", words(meter.sq), (0, 1073676289));
+    tally.equal(
+        "example, counts",
+        meter.a,
+        [1, 1, 1, 1, 1, 1, 1, 0, 0, 0, 0, 0, 0, 0, 0],
+    );
+    tally.equal("example, report", meter.report(), Err(16));
+}
+
+/// A pair of samples that brings Q to a threshold exactly.
+fn exact_threshold(tally: &mut Tally) {
+    let (meter, r) = Meter::open(1).0.chunk(&[9126, 11705]);
+    tally.equal(
+        "9126, 11705 at code 1",
+        (r, meter.P, meter.Q),
+        (0, 16052775414, 1 << 30),
+    );
+    let counts = [2, 2, 2, 2, 2, 1, 1, 0, 0, 0, 0, 0, 0, 0, 0];
+    tally.equal("9126, 11705 at code 1, counts", meter.a, counts);
+}
+
+/// Two crossings, of which the lowest is used, and an interpolation off the powers of two.
+fn further_reports(tally: &mut Tally) {
+    let mut a = [1 << 14; 15];
+    a[..4].fill(1 << 30);
+    let found = handed_in(1 << 30, 1 << 40, &a).report();
+    let found = found.map(|report| (report.A, report.lower, report.upper));
+    tally.equal("two crossings", found, Ok((40960, 2, 3)));
+
+    let a = [4096, 4096, 4096, 4096, 4096, 4096, 4096, 3000];
+    let found = handed_in(16384, 1 << 30, &a)
+        .report()
+        .map(|report| report.A);
+    tally.equal("a_7 3000", found, Ok(74580));
+}

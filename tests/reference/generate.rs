@@ -1,0 +1,85 @@
+//! Records to play, the same for the same seed.
+
+mod blocks;
+mod bounds;
+mod calls;
+mod lists;
+mod random;
+mod script;
+mod signals;
+
+use crate::records::{write_bytes, Record};
+use random::Random;
+
+/// The codes given with blocks to the host's check.
+const HOST_CODES: [u32; 12] = [0, 1, 2, 3, 4, 5, 255, 256, 257, 258, 259, u32::MAX];
+
+/// Those of them that one byte holds.
+const BYTE_CODES: [u32; 7] = [0, 1, 2, 3, 4, 5, 255];
+
+/// The records of one kind; None for an unknown kind.
+pub fn generate(kind: &str, seed: u64, count: u64) -> Option<Vec<u8>> {
+    match kind {
+        "lev" => Some(lev(seed, count)),
+        "host" => Some(host(seed, count)),
+        "check" => Some(check(seed, count)),
+        "calls" => Some(calls::calls(seed, count)),
+        "lists" => Some(lists::list(seed, count)),
+        _ => None,
+    }
+}
+
+/// Numbers for lev: powers of two and their neighbours, the edges, the figures', random ones.
+fn lev(seed: u64, count: u64) -> Vec<u8> {
+    let mut numbers = vec![0];
+    for k in 0..=81 {
+        numbers.extend([(1 << k) - 1, 1 << k, (1 << k) + 1]);
+    }
+    numbers.extend((1 << 80) - 2..=(1 << 80) + 2);
+    numbers.push(u128::MAX);
+    numbers.extend([1, 2, 3, 5, 7, 10, (1 << 32) - 1, 1 << 78]);
+    numbers.extend([
+        2048,
+        3000,
+        4096,
+        16384,
+        32768,
+        1275068,
+        1 << 20,
+        1 << 30,
+        1 << 40,
+    ]);
+    let mut random = Random::new(seed);
+    for i in 0..count {
+        let length = if i % 8 == 7 {
+            82 + i / 8 % 47
+        } else {
+            1 + i % 81
+        };
+        numbers.push(random.of_length(length));
+    }
+    let mut out = Vec::new();
+    for number in numbers {
+        Record::Lev(number).write(&mut out);
+    }
+    out
+}
+
+/// Blocks with codes of four bytes, for the host's check.
+fn host(seed: u64, count: u64) -> Vec<u8> {
+    let mut out = Vec::new();
+    blocks::all(seed, count, &HOST_CODES, &mut |code, bytes| {
+        out.extend(code.to_le_bytes());
+        write_bytes(bytes, &mut out);
+    });
+    out
+}
+
+/// The same kind of blocks, as records of a check.
+fn check(seed: u64, count: u64) -> Vec<u8> {
+    let mut out = Vec::new();
+    blocks::all(seed, count, &BYTE_CODES, &mut |code, bytes| {
+        Record::Check(code as u8, bytes.to_vec()).write(&mut out);
+    });
+    out
+}

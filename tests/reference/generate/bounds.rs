@@ -1,0 +1,270 @@
+//! Meters to hand in: plausible ones, and ones at and just past each bound of refusal 2.
+
+use super::random::Random;
+use crate::level::lev;
+use crate::meter::{Meter, MOST_SAMPLES};
+use crate::rate::rate;
+
+/// The bound of P and Q.
+const MOST_ENVELOPE: u64 = 1 << 39;
+
+/// Counts that never rise, from one no larger than n.
+fn falling(random: &mut Random, n: u64) -> [u64; 15] {
+    let any = random.between(0, n);
+    let mut next = random.pick(&[n, n, any]);
+    let mut a = [0; 15];
+    for a_j in &mut a {
+        *a_j = next;
+        next = match random.below(4) {
+            0 => next,
+            1 => next / random.pick(&[2, 3, 4, 8, 64, 4096]),
+            2 => random.between(0, next),
+            _ => next - next.min(random.below(10)),
+        };
+    }
+    a
+}
+
+/// Hangovers that never fall, none above I.
+fn rising(random: &mut Random, I: u64) -> [u64; 15] {
+    let mut h = [0; 15];
+    for h_j in &mut h {
+        *h_j = random.between(0, I);
+    }
+    h.sort();
+    h
+}
+
+/// A meter that refusal 2 lets pass, with 1 to 2^48 - 1 samples.
+pub fn plausible(random: &mut Random, code: u8) -> Meter {
+    let rate = rate(u32::from(code)).expect("a named code");
+    let bits = random.between(1, 48);
+    let n = random.of_length(bits) as u64;
+    let s = random.between(0, n << 15) as i64;
+    let bits = random.between(1, 78);
+    Meter {
+        code,
+        n,
+        s: random.pick(&[s, -s]),
+        sq: random.of_length(bits).min(u128::from(n) << 30),
+        P: random.between(0, MOST_ENVELOPE),
+        Q: random.between(0, MOST_ENVELOPE),
+        a: falling(random, n),
+        h: rising(random, rate.I),
+    }
+}
+
+/// A meter whose d_j is 0 or next to it for some j.
+pub fn tuned(random: &mut Random, code: u8) -> Meter {
+    let j = random.below(15) as usize;
+    let bits = random.between(1, 30);
+    let a_j = random.of_length(bits) as u64;
+    let level = lev(u128::from(a_j)).expect("a_j is above 0");
+    let sq = least_of_level(level + 8192 * j as u64 + 21635 - 1 + random.below(3));
+    let n = a_j.max((sq >> 30) as u64 + 1) + random.below(1000);
+    let mut a = [a_j / random.pick(&[1, 2, 16, 1 << 31]); 15];
+    a[..=j].fill(a_j);
+    Meter {
+        n,
+        s: 0,
+        sq,
+        a,
+        ..plausible(random, code)
+    }
+}
+
+/// The least number below 2^80 whose lev is not below a level.
+fn least_of_level(level: u64) -> u128 {
+    let (mut low, mut high) = (1, 1 << 80);
+    while low < high {
+        let middle = (low + high) / 2;
+        if lev(middle) < Some(level) {
+            low = middle + 1;
+        } else {
+            high = middle;
+        }
+    }
+    low
+}
+
+/// Meters at and just past each bound of refusal 2.
+pub fn bounds(random: &mut Random, code: u8) -> Vec<Meter> {
+    let mut meters = codes(random, code);
+    meters.extend(totals(random, code));
+    meters.extend(full_totals(random, code));
+    meters.extend(envelopes(random, code));
+    meters.extend(counts(random, code));
+    meters.extend(hangovers(random, code));
+    meters.extend(unstarted(code));
+    meters
+}
+
+/// Rate codes, named and not.
+fn codes(random: &mut Random, code: u8) -> Vec<Meter> {
+    let with = |code_given| Meter {
+        code: code_given,
+        ..plausible(random, code)
+    };
+    [code, 0, 4, 5, 255].into_iter().map(with).collect()
+}
+
+/// n, s and sq.
+fn totals(random: &mut Random, code: u8) -> Vec<Meter> {
+    let mut meters = Vec::new();
+    for n in [MOST_SAMPLES, MOST_SAMPLES + 1, u64::MAX] {
+        meters.push(Meter {
+            n,
+            ..plausible(random, code)
+        });
+    }
+    for (sign, more) in [(1, 0), (1, 1), (-1, 0), (-1, 1)] {
+        let meter = plausible(random, code);
+        let most = (meter.n << 15) as i64;
+        meters.push(Meter {
+            s: sign * (most + more),
+            ..meter
+        });
+    }
+    for more in [0, 1] {
+        let meter = plausible(random, code);
+        meters.push(Meter {
+            sq: (u128::from(meter.n) << 30) + more,
+            ..meter
+        });
+    }
+    meters.push(Meter {
+        sq: u128::MAX,
+        ..plausible(random, code)
+    });
+    meters.push(Meter {
+        n: 1 << 20,
+        s: 0,
+        sq: 1 << 64,
+        a: [1; 15],
+        ..plausible(random, code)
+    });
+    meters
+}
+
+/// s and sq at n = 2^48 and next to it.
+fn full_totals(random: &mut Random, code: u8) -> Vec<Meter> {
+    let mut meters = Vec::new();
+    for n in [MOST_SAMPLES - 1, MOST_SAMPLES] {
+        for s in [i64::MIN, i64::MIN + 1, i64::MAX - 32767, i64::MAX] {
+            meters.push(Meter {
+                n,
+                s,
+                ..plausible(random, code)
+            });
+        }
+        for sq in [(1 << 78) - (1 << 30), 1 << 78, (1 << 78) + 1] {
+            meters.push(Meter {
+                n,
+                sq,
+                ..plausible(random, code)
+            });
+        }
+    }
+    meters.push(Meter {
+        s: i64::MIN,
+        ..plausible(random, code)
+    });
+    meters
+}
+
+/// P and Q.
+fn envelopes(random: &mut Random, code: u8) -> Vec<Meter> {
+    let mut meters = Vec::new();
+    for envelope in [MOST_ENVELOPE, MOST_ENVELOPE + 1, u64::MAX] {
+        meters.push(Meter {
+            P: envelope,
+            ..plausible(random, code)
+        });
+        meters.push(Meter {
+            Q: envelope,
+            ..plausible(random, code)
+        });
+        meters.push(Meter {
+            P: envelope,
+            Q: envelope,
+            ..plausible(random, code)
+        });
+    }
+    meters
+}
+
+/// a_j against n and against each other.
+fn counts(random: &mut Random, code: u8) -> Vec<Meter> {
+    let mut meters = Vec::new();
+    for more in [0, 1] {
+        let mut meter = plausible(random, code);
+        meter.a[0] = meter.n + more;
+        meters.push(meter);
+        let meter = plausible(random, code);
+        meters.push(Meter {
+            a: [meter.n + more; 15],
+            ..meter
+        });
+    }
+    for j in 0..14 {
+        for more in [0, 1] {
+            let mut meter = plausible(random, code);
+            meter.a[..=j].fill(meter.n / 2);
+            meter.a[j + 1..].fill(meter.n / 2 + more);
+            meters.push(meter);
+        }
+    }
+    meters
+}
+
+/// h_j against I and against each other.
+fn hangovers(random: &mut Random, code: u8) -> Vec<Meter> {
+    let I = rate(u32::from(code)).expect("a named code").I;
+    let mut meters = Vec::new();
+    for last in [I, I + 1, u64::MAX] {
+        meters.push(Meter {
+            h: [last; 15],
+            ..plausible(random, code)
+        });
+        let mut meter = plausible(random, code);
+        meter.h[14] = last;
+        meters.push(meter);
+    }
+    for j in 0..14 {
+        for more in [0, 1] {
+            let mut meter = plausible(random, code);
+            meter.h[..=j].fill(I / 2 + more);
+            meter.h[j + 1..].fill(I / 2);
+            meters.push(meter);
+        }
+    }
+    meters
+}
+
+/// Meters of no samples, of which only the envelopes may be above 0.
+fn unstarted(code: u8) -> Vec<Meter> {
+    let (fresh, _) = Meter::open(code);
+    let mut counted = fresh.clone();
+    counted.a[0] = 1;
+    vec![
+        Meter {
+            P: 1 << 30,
+            Q: 1 << 26,
+            ..fresh.clone()
+        },
+        Meter {
+            h: [0; 15],
+            ..fresh.clone()
+        },
+        Meter {
+            s: 1,
+            ..fresh.clone()
+        },
+        Meter {
+            s: -1,
+            ..fresh.clone()
+        },
+        Meter { sq: 1, ..fresh },
+        counted,
+    ]
+}

@@ -1,0 +1,254 @@
+//! Long scripts of calls on one line.
+
+use super::bounds::{bounds, plausible, tuned};
+use super::random::Random;
+use super::script::Script;
+use super::signals::{noise, signal};
+use crate::meter::{Meter, MOST_IN_CHUNK, MOST_SAMPLES};
+use crate::rate::rate;
+use crate::records::Record;
+
+/// A script of about so many records: the bounds of refusal 2, then calls of all kinds.
+pub fn calls(seed: u64, count: u64) -> Vec<u8> {
+    let mut script = Script::new(seed);
+    let code = 1 + (seed % 3) as u8;
+    for meter in bounds(&mut script.random, code) {
+        if script.records < count {
+            tried(&mut script, meter);
+        }
+    }
+    while script.records < count {
+        step(&mut script);
+    }
+    script.bytes
+}
+
+/// Hands a meter in and makes each kind of call on it.
+fn tried(script: &mut Script, meter: Meter) {
+    script.add(Record::Load(meter));
+    script.add(Record::Report);
+    script.add(Record::Chunk(Vec::new()));
+    let sample = script.random.sample(32768);
+    script.add(Record::Chunk(vec![sample]));
+    script.add(Record::Show);
+    let bytes = script.fitting(2);
+    script.add(Record::Block(bytes));
+    script.add(Record::Show);
+}
+
+/// One thing of some kind; a meter that refuses everything or is full is soon replaced.
+fn step(script: &mut Script) {
+    let stuck = script.meter().refusal_2() || script.meter().n == MOST_SAMPLES;
+    if stuck && script.random.once_in(2) {
+        return open(script);
+    }
+    match script.random.below(80) {
+        0..=1 => open(script),
+        2..=21 => chunk(script),
+        22..=37 => sound_block(script),
+        38..=43 => refused_block(script),
+        44..=53 => script.add(Record::Report),
+        54..=61 => script.add(Record::Show),
+        62..=65 => bursts(script),
+        66 => pair(script),
+        67 => two_words(script),
+        68 => last_chunks(script),
+        69 => last_blocks(script),
+        70 => bound(script),
+        71..=72 => reported(script, plausible),
+        73..=74 => reported(script, tuned),
+        _ => small_chunks(script),
+    }
+}
+
+/// A named code.
+fn named(script: &mut Script) -> u8 {
+    script.random.between(1, 3) as u8
+}
+
+/// The hangover of the meter, or any where its code is not named.
+fn hangover(script: &Script) -> u64 {
+    rate(u32::from(script.meter().code)).map_or(139, |rate| rate.I)
+}
+
+/// An opening, mostly with a named code.
+fn open(script: &mut Script) {
+    let code = script
+        .random
+        .pick(&[1, 1, 1, 2, 2, 2, 3, 3, 3, 0, 4, 5, 255]);
+    script.add(Record::Open(code));
+}
+
+/// Samples of some signal.
+fn samples(script: &mut Script, length: usize) -> Vec<i16> {
+    let I = hangover(script);
+    signal(&mut script.random, I, length)
+}
+
+/// A chunk of any length, seldom too long.
+fn chunk(script: &mut Script) {
+    let length = match script.random.below(40) {
+        0..=2 => 0,
+        3..=5 => 1,
+        6..=25 => script.random.between(2, 60),
+        26..=36 => script.random.between(61, 900),
+        37 => script.random.between(901, 4095),
+        38 => 4096,
+        _ => script.random.pick(&[4097, 4097, 4098, 8192, 65535]),
+    };
+    let record = Record::Chunk(samples(script, length as usize));
+    script.add(record);
+}
+
+/// A few chunks of a few samples each.
+fn small_chunks(script: &mut Script) {
+    for _ in 0..script.random.between(2, 6) {
+        let length = script.random.below(5) as usize;
+        let record = Record::Chunk(samples(script, length));
+        script.add(record);
+    }
+}
+
+/// A sound block that fits.
+fn sound_block(script: &mut Script) {
+    let any = script.random.between(1, 248);
+    let count = script.random.pick(&[1, 248, any, any]);
+    let bytes = script.fitting(count);
+    script.add(Record::Block(bytes));
+}
+
+/// A block with something wrong.
+fn refused_block(script: &mut Script) {
+    let bytes = match script.random.below(5) {
+        0 => script.misplaced(),
+        1 => script.of_another_rate(),
+        _ => script.damaged(),
+    };
+    script.add(Record::Block(bytes));
+}
+
+/// Noise, then a silence that outlasts envelope and hangover.
+fn bursts(script: &mut Script) {
+    let I = hangover(script);
+    let length = script.random.between(1, I) as usize;
+    let burst = noise(&mut script.random, length);
+    script.add(Record::Chunk(burst));
+    let pause = MOST_IN_CHUNK.min(2 * I as usize);
+    for _ in 0..3 {
+        script.add(Record::Chunk(vec![0; pause]));
+        script.add(Record::Show);
+    }
+    script.add(Record::Report);
+}
+
+/// The two samples that bring Q to a threshold exactly, together or apart.
+fn pair(script: &mut Script) {
+    script.add(Record::Open(1));
+    if script.random.once_in(2) {
+        script.add(Record::Chunk(vec![9126, 11705]));
+    } else {
+        script.add(Record::Chunk(vec![9126]));
+        script.add(Record::Show);
+        script.add(Record::Chunk(vec![11705]));
+    }
+    script.add(Record::Show);
+    script.add(Record::Report);
+}
+
+/// A meter whose sq is just below 2^64, and samples that bring it past.
+fn two_words(script: &mut Script) {
+    let code = named(script);
+    let n = (1 << 34) + script.random.below(1 << 34);
+    let sq = (1u128 << 64) - u128::from(script.random.between(1, 1 << 31));
+    let meter = Meter {
+        n,
+        sq,
+        ..plausible(&mut script.random, code)
+    };
+    let s = meter.s.clamp(-(1 << 49), 1 << 49);
+    let a = meter.a.map(|a_j| a_j.min(n));
+    script.add(Record::Load(Meter { s, a, ..meter }));
+    script.add(Record::Report);
+    for x in [-32768, 32767, -32768] {
+        script.add(Record::Chunk(vec![x]));
+        script.add(Record::Show);
+    }
+    script.add(Record::Report);
+}
+
+/// A meter of 2^48 - k samples, its totals at the bounds or not.
+fn nearly_full(script: &mut Script, k: u64) -> Meter {
+    let code = named(script);
+    let meter = plausible(&mut script.random, code);
+    let n = MOST_SAMPLES - k;
+    let most = i128::from(n) << 15;
+    let full = u128::from(n) << 30;
+    match script.random.below(3) {
+        0 => Meter {
+            n,
+            s: -most as i64,
+            sq: full,
+            a: [n; 15],
+            ..meter
+        },
+        1 => Meter {
+            n,
+            s: most.min(i128::from(i64::MAX)) as i64,
+            sq: full,
+            ..meter
+        },
+        _ => Meter { n, ..meter },
+    }
+}
+
+/// Chunks that fill a meter exactly, and by one too many.
+fn last_chunks(script: &mut Script) {
+    let few = script.random.between(0, 40);
+    let many = script.random.between(0, 4095);
+    let k = script.random.pick(&[few, few, many, 4095, 4096]);
+    let meter = nearly_full(script, k);
+    script.add(Record::Load(meter));
+    let x = script.random.pick(&[-32768, 32767, 1]);
+    for length in [k + 1, k] {
+        script.add(Record::Chunk(vec![x; length as usize]));
+        script.add(Record::Show);
+    }
+    script.add(Record::Report);
+    for length in [0, 1, 4096, 4097] {
+        script.add(Record::Chunk(vec![x; length]));
+    }
+}
+
+/// Blocks that fill a meter exactly, and by one too many.
+fn last_blocks(script: &mut Script) {
+    let k = script.random.between(1, 247);
+    let meter = nearly_full(script, k);
+    script.add(Record::Load(meter));
+    for count in [k + 1, k] {
+        let misplaced = script.misplaced();
+        script.add(Record::Block(misplaced));
+        let bytes = script.fitting(count);
+        script.add(Record::Block(bytes));
+        script.add(Record::Show);
+    }
+    let bytes = script.fitting(1);
+    script.add(Record::Block(bytes));
+    script.add(Record::Report);
+}
+
+/// One of the meters at the bounds of refusal 2.
+fn bound(script: &mut Script) {
+    let code = named(script);
+    let mut meters = bounds(&mut script.random, code);
+    let i = script.random.below(meters.len() as u64) as usize;
+    tried(script, meters.swap_remove(i));
+}
+
+/// A meter of some making, and its report.
+fn reported(script: &mut Script, make: fn(&mut Random, u8) -> Meter) {
+    let code = named(script);
+    let meter = make(&mut script.random, code);
+    script.add(Record::Load(meter));
+    script.add(Record::Report);
+    script.add(Record::Show);
+}

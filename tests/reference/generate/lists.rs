@@ -1,0 +1,68 @@
+//! Short lists of calls for demand 3.
+
+use super::random::Random;
+use super::script::Script;
+use super::signals::{grazing, signal};
+use crate::block;
+use crate::rate::{Rate, RATES};
+use crate::records::Record;
+
+/// About the most samples of a list.
+const TOTAL: usize = 600;
+
+/// One list: an opening, so many calls, a show and a report.
+pub fn list(seed: u64, count: u64) -> Vec<u8> {
+    let mut script = Script::new(seed);
+    let rate = &RATES[script.random.pick(&[0, 0, 0, 0, 1, 2])];
+    script.add(Record::Open(rate.code));
+    let samples = signals(&mut script.random, rate);
+    let mut rest = &samples[..];
+    for _ in 0..count {
+        if script.random.once_in(4) {
+            refused(&mut script);
+        } else {
+            rest = accepted(&mut script, rest, count);
+        }
+    }
+    script.add(Record::Show);
+    script.add(Record::Report);
+    script.bytes
+}
+
+/// The samples of a list: two signals, one that takes it all, or one that grazes a threshold.
+fn signals(random: &mut Random, rate: &Rate) -> Vec<i16> {
+    if random.once_in(3) {
+        return grazing(random, rate, TOTAL);
+    }
+    let first = random.pick(&[0, TOTAL / 4, TOTAL / 2]);
+    let mut samples = signal(random, RATES[0].I, first);
+    samples.extend(signal(random, RATES[0].I, TOTAL - first));
+    samples
+}
+
+/// A chunk or a block of the signal's next samples; gives the samples left.
+fn accepted<'a>(script: &mut Script, rest: &'a [i16], count: u64) -> &'a [i16] {
+    let wanted = script.random.between(0, 3 * TOTAL as u64 / count + 1) as usize;
+    let length = wanted.min(rest.len());
+    let (taken, rest) = rest.split_at(length);
+    if (1..=block::MOST).contains(&length) && script.random.once_in(2) {
+        let bytes = block::make(script.meter().code, script.meter().n, taken);
+        script.add(Record::Block(bytes));
+    } else {
+        script.add(Record::Chunk(taken.to_vec()));
+    }
+    rest
+}
+
+/// A call to refuse.
+fn refused(script: &mut Script) {
+    let damaged = script.damaged();
+    let record = match script.random.below(6) {
+        0 => Record::Chunk(vec![1000; script.random.between(4097, 4200) as usize]),
+        1 => Record::Block(script.misplaced()),
+        2 => Record::Block(script.of_another_rate()),
+        _ if block::sound(&damaged) => Record::Block(script.misplaced()),
+        _ => Record::Block(damaged),
+    };
+    script.add(record);
+}

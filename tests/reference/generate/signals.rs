@@ -1,0 +1,109 @@
+//! Signals to measure.
+
+use super::random::Random;
+use crate::meter::{c, Meter};
+use crate::rate::Rate;
+
+/// A signal of some kind; its pauses outlast a hangover of I samples.
+pub fn signal(random: &mut Random, I: u64, length: usize) -> Vec<i16> {
+    match random.below(8) {
+        0 => vec![0; length],
+        1 => vec![loud_sample(random); length],
+        2 => triangle(random, length),
+        3 => noise(random, length),
+        4 | 5 => bursts(random, I, length),
+        6 => full_scale(random, length),
+        _ => settling(random, length),
+    }
+}
+
+/// A sample of any bit length.
+fn loud_sample(random: &mut Random) -> i16 {
+    let most = 1 << random.between(0, 15);
+    random.sample(most)
+}
+
+/// A tone in the shape of a triangle.
+fn triangle(random: &mut Random, length: usize) -> Vec<i16> {
+    let quarter = random.between(1, 40) as i64;
+    let peak = (1 << random.between(0, 15)) - 1;
+    let height = |i: usize| {
+        let phase = i as i64 % (4 * quarter);
+        let distance = (phase - 2 * quarter).abs() - quarter;
+        (peak * distance / quarter) as i16
+    };
+    (0..length).map(height).collect()
+}
+
+/// Noise of some loudness.
+pub fn noise(random: &mut Random, length: usize) -> Vec<i16> {
+    let most = 1 << random.between(0, 15);
+    (0..length).map(|_| random.sample(most)).collect()
+}
+
+/// Noise with pauses longer than the hangover.
+fn bursts(random: &mut Random, I: u64, length: usize) -> Vec<i16> {
+    let mut samples = Vec::new();
+    while samples.len() < length {
+        let burst = random.between(1, I) as usize;
+        samples.extend(noise(random, burst));
+        let pause = random.between(I + 1, 3 * I) as usize;
+        samples.extend(vec![0; pause]);
+    }
+    samples.truncate(length);
+    samples
+}
+
+/// The loudest samples of either sign.
+fn full_scale(random: &mut Random, length: usize) -> Vec<i16> {
+    match random.below(3) {
+        0 => vec![-32768; length],
+        1 => vec![32767; length],
+        _ => (0..length).map(|_| random.pick(&[-32768, 32767])).collect(),
+    }
+}
+
+/// A loud start that sinks onto the value of a threshold, which an exact envelope stays above.
+fn settling(random: &mut Random, length: usize) -> Vec<i16> {
+    let threshold = 1 << random.between(0, 13);
+    let start = random.between(1, 60) as usize;
+    (0..length)
+        .map(|i| if i < start { 2 * threshold } else { threshold })
+        .collect()
+}
+
+/// Noise, a kick that brings Q to within a few units of a threshold not reached before, silence.
+pub fn grazing(random: &mut Random, rate: &Rate, length: usize) -> Vec<i16> {
+    let start = random.between(60, 200) as usize;
+    let most = 1 << random.between(0, 10);
+    let mut samples: Vec<i16> = (0..start).map(|_| random.sample(most)).collect();
+    let (meter, _) = Meter::open(rate.code).0.chunk(&samples);
+    let unreached = (0..15).find(|&j| meter.a[j] == 0);
+    let j = unreached.expect("quiet noise leaves thresholds unreached");
+    let target = c(j) - 16 + random.below(24);
+    let kicks = (0..20000).map(|_| kick(random, &meter, c(j), target));
+    let nearest = kicks.min_by_key(|&(distance, _)| distance);
+    samples.extend(nearest.expect("there are kicks").1);
+    samples.resize(length, 0);
+    samples
+}
+
+/// Samples whose last brings Q as near to the target as it can, and how far that is.
+fn kick(random: &mut Random, meter: &Meter, c_j: u64, target: u64) -> (u64, Vec<i16>) {
+    let length = random.pick(&[1, 5, 20]);
+    let mut samples = noise(random, length);
+    let (meter, _) = meter.chunk(&samples);
+    let Q = |x: i16| meter.chunk(&[x]).0.Q;
+    let (mut low, mut high) = (0, 32767);
+    while low < high {
+        let middle = low + (high - low) / 2;
+        if Q(middle) < target {
+            low = middle + 1;
+        } else {
+            high = middle;
+        }
+    }
+    samples.push(low);
+    let reached_before = if meter.Q < c_j { 0 } else { u64::MAX / 2 };
+    (reached_before + Q(low).abs_diff(target), samples)
+}

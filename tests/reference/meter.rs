@@ -1,0 +1,254 @@
+//! The meter and its report.
+
+use crate::block;
+use crate::level::lev;
+use crate::rate::{rate, Rate};
+
+/// The most samples that a meter counts (document 01, "Why a call is refused").
+pub const MOST_SAMPLES: u64 = 1 << 48;
+
+/// The most samples in a chunk (document 01, "One sample").
+pub const MOST_IN_CHUNK: usize = 4096;
+
+/// The margin in steps (document 01, "The report").
+const M: i64 = 21635;
+
+/// What a meter holds (document 01, "One sample").
+#[derive(Clone)]
+pub struct Meter {
+    pub code: u8,
+    pub n: u64,
+    pub s: i64,
+    pub sq: u128,
+    pub P: u64,
+    pub Q: u64,
+    pub a: [u64; 15],
+    pub h: [u64; 15],
+}
+
+/// What a report adds to the meter's own n, s, sq and a_j (document 01, "The report").
+#[derive(Debug, PartialEq)]
+pub struct Report {
+    pub L: i64,
+    pub A: i64,
+    pub C: i64,
+    pub F: i64,
+    pub lower: usize,
+    pub upper: usize,
+}
+
+/// Threshold c_j in units (document 01, "One sample").
+pub fn c(j: usize) -> u64 {
+    1 << (j + 24)
+}
+
+/// lev of a number that has a level, signed for differences (document 01, "The level logarithm").
+fn steps(N: u128) -> i64 {
+    lev(N).expect("a report asks only for levels that exist") as i64
+}
+
+/// C_j (document 01, "The report").
+fn C_(j: usize) -> i64 {
+    8192 * j as i64
+}
+
+impl Meter {
+    /// The meter of all zeros (document 01, "Why a call is refused").
+    pub fn zero() -> Meter {
+        Meter {
+            code: 0,
+            n: 0,
+            s: 0,
+            sq: 0,
+            P: 0,
+            Q: 0,
+            a: [0; 15],
+            h: [0; 15],
+        }
+    }
+
+    /// Opening: the fresh meter, or refusal 1 (document 01, "One sample", "Why a call is refused").
+    pub fn open(code: u8) -> (Meter, u32) {
+        match rate(u32::from(code)) {
+            Some(rate) => (
+                Meter {
+                    code,
+                    h: [rate.I; 15],
+                    ..Meter::zero()
+                },
+                0,
+            ),
+            None => (Meter::zero(), 1),
+        }
+    }
+
+    /// A chunk: the meter handed back and 0 or the refusal (document 01, "One sample").
+    pub fn chunk(&self, samples: &[i16]) -> (Meter, u32) {
+        let r = self.chunk_refusal(samples);
+        if r == 0 {
+            (self.after(samples), 0)
+        } else {
+            (self.clone(), r)
+        }
+    }
+
+    /// A block: the meter handed back and 0 or the refusal (document 01, "Sample blocks").
+    pub fn block(&self, bytes: &[u8]) -> (Meter, u32) {
+        let r = self.block_refusal(bytes);
+        if r == 0 {
+            (self.after(&block::samples(bytes)), 0)
+        } else {
+            (self.clone(), r)
+        }
+    }
+
+    /// The lowest refusal of a chunk, else 0 (document 01, "Why a call is refused").
+    fn chunk_refusal(&self, samples: &[i16]) -> u32 {
+        if self.refusal_2() {
+            2
+        } else if samples.len() > MOST_IN_CHUNK {
+            3
+        } else if self.refusal_11(samples.len()) {
+            11
+        } else {
+            0
+        }
+    }
+
+    /// The lowest refusal of a block, else 0 (document 01, "Why a call is refused").
+    fn block_refusal(&self, bytes: &[u8]) -> u32 {
+        if self.refusal_2() {
+            return 2;
+        }
+        let r = block::refusal(bytes, u32::from(self.code));
+        if r != 0 {
+            r
+        } else if block::before(bytes) != self.n {
+            10
+        } else if self.refusal_11(block::count(bytes)) {
+            11
+        } else {
+            0
+        }
+    }
+
+    /// Refusal 2: no measurement could hold this (document 01, "Why a call is refused").
+    pub fn refusal_2(&self) -> bool {
+        let Some(rate) = rate(u32::from(self.code)) else {
+            return true;
+        };
+        let n = u128::from(self.n);
+        self.n > MOST_SAMPLES
+            || u128::from(self.s.unsigned_abs()) > n << 15
+            || self.sq > n << 30
+            || self.P > 1 << 39
+            || self.Q > 1 << 39
+            || self.h.iter().any(|&h| h > rate.I)
+            || self.a.iter().any(|&a| a > self.n)
+            || (1..15).any(|j| self.a[j] > self.a[j - 1])
+            || (1..15).any(|j| self.h[j] < self.h[j - 1])
+    }
+
+    /// Refusal 11: too many samples together (document 01, "Why a call is refused").
+    fn refusal_11(&self, more: usize) -> bool {
+        u128::from(self.n) + more as u128 > u128::from(MOST_SAMPLES)
+    }
+
+    /// The meter after samples in order (document 01, "One sample").
+    fn after(&self, samples: &[i16]) -> Meter {
+        let rate = rate(u32::from(self.code)).expect("refusal 2 is past");
+        let mut meter = self.clone();
+        for &x in samples {
+            meter.sample(rate, x);
+        }
+        meter
+    }
+
+    /// One sample (document 01, "One sample").
+    fn sample(&mut self, rate: &Rate, x: i16) {
+        let K = u128::from(rate.K);
+        self.n += 1;
+        self.s += i64::from(x);
+        self.sq += u128::from(x.unsigned_abs()) * u128::from(x.unsigned_abs());
+        let input = u128::from(x.unsigned_abs()) << 24;
+        let P = (u128::from(self.P) * ((1 << 20) - K) + input * K) >> 20;
+        let Q = (u128::from(self.Q) * ((1 << 20) - K) + P * K) >> 20;
+        self.P = P as u64;
+        self.Q = Q as u64;
+        for j in 0..15 {
+            if self.Q >= c(j) {
+                self.a[j] += 1;
+                self.h[j] = 0;
+            } else if self.h[j] < rate.I {
+                self.a[j] += 1;
+                self.h[j] += 1;
+            }
+        }
+    }
+
+    /// A_j where a_j is above 0 (document 01, "The report").
+    fn A_(&self, j: usize) -> Option<i64> {
+        if self.a[j] > 0 {
+            Some(steps(self.sq) - steps(u128::from(self.a[j])))
+        } else {
+            None
+        }
+    }
+
+    /// d_j where a_j is above 0 (document 01, "The report").
+    fn d(&self, j: usize) -> Option<i64> {
+        self.A_(j).map(|A_j| A_j - C_(j) - M)
+    }
+
+    /// Whether a crossing is at j (document 01, "The report").
+    fn crossing_at(&self, j: usize) -> bool {
+        let Some(d_j) = self.d(j) else {
+            return false;
+        };
+        let falls = j >= 1 && d_j < 0 && self.d(j - 1).is_some_and(|before| before > 0);
+        d_j == 0 || falls
+    }
+
+    /// A and the lower and upper j at a crossing (document 01, "The report").
+    fn active(&self, j: usize) -> Option<(i64, usize, usize)> {
+        let (A_j, d_j) = (self.A_(j)?, self.d(j)?);
+        if d_j == 0 {
+            return Some((A_j, j, j));
+        }
+        let (A_before, d_before) = (self.A_(j - 1)?, self.d(j - 1)?);
+        let rise = ((A_j - A_before) * d_before).div_euclid(d_before - d_j);
+        Some((A_before + rise, j - 1, j))
+    }
+
+    /// The report, or its lowest refusal (document 01, "The report", "Why a call is refused").
+    pub fn report(&self) -> Result<Report, u32> {
+        if self.refusal_2() {
+            return Err(2);
+        }
+        if self.n == 0 {
+            return Err(12);
+        }
+        if self.sq == 0 {
+            return Err(13);
+        }
+        let Some(d_0) = self.d(0) else {
+            return Err(14);
+        };
+        let crossing = (0..15).find(|&j| self.crossing_at(j));
+        match crossing.and_then(|j| self.active(j)) {
+            Some((A, lower, upper)) => {
+                let L = steps(self.sq) - steps(u128::from(self.n));
+                Ok(Report {
+                    L,
+                    A,
+                    C: A - M,
+                    F: L - A,
+                    lower,
+                    upper,
+                })
+            }
+            None if d_0 < 0 => Err(15),
+            None => Err(16),
+        }
+    }
+}

@@ -1,0 +1,194 @@
+//! The records of a recorded list of calls, read and written; numbers are little-endian.
+
+use crate::meter::Meter;
+
+/// One record.
+pub enum Record {
+    Open(u8),
+    Chunk(Vec<i16>),
+    Block(Vec<u8>),
+    Report,
+    Load(Meter),
+    Show,
+    Lev(u128),
+    Check(u8, Vec<u8>),
+}
+
+/// Bytes read from the front; each reading is None where they are cut short.
+pub struct Reader<'a> {
+    rest: &'a [u8],
+}
+
+impl<'a> Reader<'a> {
+    /// A reader at the front of all the bytes.
+    pub fn new(bytes: &'a [u8]) -> Reader<'a> {
+        Reader { rest: bytes }
+    }
+
+    /// Whether every byte is read.
+    pub fn at_end(&self) -> bool {
+        self.rest.is_empty()
+    }
+
+    /// The next bytes.
+    fn take(&mut self, length: usize) -> Option<&'a [u8]> {
+        if length > self.rest.len() {
+            return None;
+        }
+        let (taken, rest) = self.rest.split_at(length);
+        self.rest = rest;
+        Some(taken)
+    }
+
+    /// A number of up to eight bytes.
+    pub fn number(&mut self, length: usize) -> Option<u64> {
+        let bytes = self.take(length)?;
+        Some(
+            bytes
+                .iter()
+                .rev()
+                .fold(0, |number, &byte| 256 * number + u64::from(byte)),
+        )
+    }
+
+    /// A number of two words, the high one first.
+    fn two_words(&mut self) -> Option<u128> {
+        let high = self.number(8)?;
+        let low = self.number(8)?;
+        Some((u128::from(high) << 64) + u128::from(low))
+    }
+
+    /// Fifteen numbers of eight bytes.
+    fn fifteen(&mut self) -> Option<[u64; 15]> {
+        let mut numbers = [0; 15];
+        for number in &mut numbers {
+            *number = self.number(8)?;
+        }
+        Some(numbers)
+    }
+
+    /// A length of two bytes and that many bytes.
+    pub fn bytes(&mut self) -> Option<Vec<u8>> {
+        let length = self.number(2)?;
+        Some(self.take(length as usize)?.to_vec())
+    }
+
+    /// A count of two bytes and that many samples.
+    fn samples(&mut self) -> Option<Vec<i16>> {
+        let count = self.number(2)?;
+        (0..count)
+            .map(|_| Some(self.number(2)? as u16 as i16))
+            .collect()
+    }
+
+    /// The 37 values of a meter.
+    fn meter(&mut self) -> Option<Meter> {
+        let code = self.number(1)? as u8;
+        let n = self.number(8)?;
+        let s = self.number(8)? as i64;
+        let sq = self.two_words()?;
+        let P = self.number(8)?;
+        let Q = self.number(8)?;
+        let a = self.fifteen()?;
+        let h = self.fifteen()?;
+        Some(Meter {
+            code,
+            n,
+            s,
+            sq,
+            P,
+            Q,
+            a,
+            h,
+        })
+    }
+
+    /// One record; None also where the first byte is unknown.
+    fn record(&mut self) -> Option<Record> {
+        match self.number(1)? {
+            1 => Some(Record::Open(self.number(1)? as u8)),
+            2 => Some(Record::Chunk(self.samples()?)),
+            3 => Some(Record::Block(self.bytes()?)),
+            4 => Some(Record::Report),
+            5 => Some(Record::Load(self.meter()?)),
+            6 => Some(Record::Show),
+            7 => Some(Record::Lev(self.two_words()?)),
+            8 => Some(Record::Check(self.number(1)? as u8, self.bytes()?)),
+            _ => None,
+        }
+    }
+}
+
+/// The records up to the end or to the first bad one, and whether a bad one follows.
+pub fn read(bytes: &[u8]) -> (Vec<Record>, bool) {
+    let mut reader = Reader::new(bytes);
+    let mut records = Vec::new();
+    while !reader.at_end() {
+        match reader.record() {
+            Some(record) => records.push(record),
+            None => return (records, true),
+        }
+    }
+    (records, false)
+}
+
+/// The high and the low word of a number.
+pub fn words(number: u128) -> (u64, u64) {
+    ((number >> 64) as u64, number as u64)
+}
+
+/// Writes a length of two bytes and the bytes.
+pub fn write_bytes(bytes: &[u8], out: &mut Vec<u8>) {
+    out.extend((bytes.len() as u16).to_le_bytes());
+    out.extend(bytes);
+}
+
+/// Writes a number of two words, the high one first.
+fn write_words(number: u128, out: &mut Vec<u8>) {
+    let (high, low) = words(number);
+    out.extend(high.to_le_bytes());
+    out.extend(low.to_le_bytes());
+}
+
+/// Writes the 37 values of a meter.
+fn write_meter(meter: &Meter, out: &mut Vec<u8>) {
+    out.push(meter.code);
+    out.extend(meter.n.to_le_bytes());
+    out.extend(meter.s.to_le_bytes());
+    write_words(meter.sq, out);
+    for number in [meter.P, meter.Q].iter().chain(&meter.a).chain(&meter.h) {
+        out.extend(number.to_le_bytes());
+    }
+}
+
+impl Record {
+    /// Writes the record.
+    pub fn write(&self, out: &mut Vec<u8>) {
+        match self {
+            Record::Open(code) => out.extend([1, *code]),
+            Record::Chunk(samples) => {
+                out.push(2);
+                out.extend((samples.len() as u16).to_le_bytes());
+                out.extend(samples.iter().flat_map(|x| x.to_le_bytes()));
+            }
+            Record::Block(bytes) => {
+                out.push(3);
+                write_bytes(bytes, out);
+            }
+            Record::Report => out.push(4),
+            Record::Load(meter) => {
+                out.push(5);
+                write_meter(meter, out);
+            }
+            Record::Show => out.push(6),
+            Record::Lev(number) => {
+                out.push(7);
+                write_words(*number, out);
+            }
+            Record::Check(code, bytes) => {
+                out.extend([8, *code]);
+                write_bytes(bytes, out);
+            }
+        }
+    }
+}

@@ -1,0 +1,82 @@
+//! Replay: plays a recorded list of calls and prints a line for each.
+
+use crate::block;
+use crate::level::lev;
+use crate::meter::Meter;
+use crate::records::{read, words, Record};
+
+/// The meter that the records act on.
+pub struct Player {
+    pub meter: Meter,
+}
+
+impl Player {
+    /// Starts with the meter of all zeros.
+    pub fn new() -> Player {
+        Player {
+            meter: Meter::zero(),
+        }
+    }
+
+    /// Plays one record and gives its line.
+    pub fn answer(&mut self, record: &Record) -> String {
+        match record {
+            Record::Open(code) => format!("open {}", self.keep(Meter::open(*code))),
+            Record::Chunk(samples) => format!("chunk {}", self.keep(self.meter.chunk(samples))),
+            Record::Block(bytes) => format!("block {}", self.keep(self.meter.block(bytes))),
+            Record::Report => report_line(&self.meter),
+            Record::Load(meter) => {
+                self.meter = meter.clone();
+                "load".to_string()
+            }
+            Record::Show => meter_line(&self.meter),
+            Record::Lev(number) => match lev(*number) {
+                Some(level) => format!("lev {level}"),
+                None => "lev none".to_string(),
+            },
+            Record::Check(code, bytes) => format!("check {}", block::host(u32::from(*code), bytes)),
+        }
+    }
+
+    /// Keeps the meter handed back and gives the number beside it.
+    fn keep(&mut self, (meter, r): (Meter, u32)) -> u32 {
+        self.meter = meter;
+        r
+    }
+}
+
+/// The line of a report.
+fn report_line(meter: &Meter) -> String {
+    match meter.report() {
+        Ok(report) => format!(
+            "report 0 {} {} {} {} {} {}",
+            report.L, report.A, report.C, report.F, report.lower, report.upper
+        ),
+        Err(r) => format!("report {r}"),
+    }
+}
+
+/// The line of a show: the 37 values.
+fn meter_line(meter: &Meter) -> String {
+    let (high, low) = words(meter.sq);
+    let mut line = format!("meter {} {} {} {high} {low}", meter.code, meter.n, meter.s);
+    for number in [meter.P, meter.Q].iter().chain(&meter.a).chain(&meter.h) {
+        line += &format!(" {number}");
+    }
+    line
+}
+
+/// Plays every record, one line each; a bad one ends the run with a line of its own.
+pub fn replay(bytes: &[u8]) -> String {
+    let (records, bad) = read(bytes);
+    let mut player = Player::new();
+    let mut lines = String::new();
+    for record in &records {
+        lines += &player.answer(record);
+        lines += "\n";
+    }
+    if bad {
+        lines += &format!("bad record {}\n", records.len() + 1);
+    }
+    lines
+}
