@@ -1,13 +1,16 @@
 -- What the crates above know of a block: what soundness is in terms of the rules, what its part is, and what the host is told.
-use mathlib.Core.Bool.{Bool, true, false, not, _&&_, and-false}
+use mathlib.Core.Bool.{Bool, true, false, cond, not, _&&_, and-false}
 use mathlib.Core.List.{List, [], _∷_}
 use mathlib.Core.Logic.{_↔_}
 use mathlib.Core.Path.{_≡_, refl, sym, ap, ap₂, subst, _∙_}
-use Prim.Native.Nat.{ℕ, zero, suc, _+_, _-_, _*_, _≤_, _<_}
+use Prim.Native.Nat.{ℕ, zero, suc, _+_, _-_, _*_, _^_, _≤_, _<_}
 use native.Mathlib.Omega.{arith}
 use native.Mathlib.Nat.{add-assoc}
-use borrow.Author.Tests.{eq-eqb, eqb-true, leb-true, not-true, not-false}
-use lib.Dec.{eqb, leb, T}
+use borrow.Author.Tests.{eq-eqb, eqb-true, ltb-true, ltb-false, leb-true, not-true, not-false}
+use lib.Dec.{eqb, leb, ltb, T}
+use lib.IntN.{pos, negℤ}
+use mir.Syntax.{w16}
+use mir.Val.{SFits}
 use lib.ListN.{length, getD, take, drop, length-take, length-drop}
 use lib.Seq.{getD-take, getD-drop, length-take-le}
 use Rattle.refusal.specs.First.{Rule, firstOf}
@@ -165,6 +168,19 @@ unfolding samples
 part-reads b h =
     ap (λ (p : List ℕ). samplesAt p 0 (count b)) (sym (part-some b h))
     ∙ samples-part b 12 (2 * count b) (count b) 0 (omega arith)
+
+-- a sample is a signed 16-bit number
+pub signed-fits : (w : ℕ) → SFits w16 (signed w)
+unfolding signed
+signed-fits w = go (ltb w (2 ^ 15)) refl
+  where
+    negative : (n : ℕ) → n ≤ 2 ^ 15 → SFits w16 (negℤ (pos n))
+    negative zero h = record { sfits = omega arith }
+    negative (suc n) h = record { sfits = omega arith }
+
+    go : (t : Bool) → ltb w (2 ^ 15) ≡ t → SFits w16 (cond t (pos w) (negℤ (pos (2 ^ 16 - w))))
+    go true e = record { sfits = omega (arith, ltb-true w (2 ^ 15) e) }
+    go false e = negative (2 ^ 16 - w) (omega (arith, ltb-false w (2 ^ 15) e))
 
 -- ---- the host
 

@@ -1,16 +1,16 @@
 -- What the crates above know of a named rate, whichever it is: `named-keeps` and `named-code`. Only this file goes through the table's rows.
 use mathlib.Core.Bool.{Bool, true, false, cond}
-use mathlib.Core.Option.{Option, none, some}
+use mathlib.Core.Option.{Option, none, some, Option·getD}
 use mathlib.Core.Path.{_≡_, refl, sym, ap, subst, _∙_}
 use Prim.Native.Nat.{ℕ, _+_, _*_, _^_, _≤_, _<_}
 use native.Mathlib.Omega.{arith}
 use native.Mathlib.Nat.{lt-of-not-le, not-le-of-lt, mul-le-mul-right}
 use borrow.Author.Tests.{eqb-true}
-use lib.Dec.{eqb}
+use lib.Dec.{T, eqb}
 use Rattle.rate.specs.declared.Rate.{Rate}
 use Rattle.rate.specs.declared.Named.{Named}
 use Rattle.rate.specs.declared.Named.the-variants.{As, Nothing}
-use Rattle.rate.specs.Rates.{hz694, hz8000, hz16000, rateOf, isSome, isNamed, named, Ceiling, Keeps}
+use Rattle.rate.specs.Rates.{hz694, hz8000, hz16000, rateOf, isSome, isNamed, zeroRow, rowOf, named, Ceiling, Keeps}
 
 -- P of the rate, where there is one
 Of : (Rate → Type 0) → Option Rate → Type 0
@@ -60,6 +60,20 @@ named-keeps =
 
 pub named-code : (code : ℕ) (r : Rate) → rateOf code ≡ some r → r .code ≡ code
 named-code = each-row (λ code r. r .code ≡ code) refl refl refl
+
+-- ---- by the code alone
+
+pub row-is : (code : ℕ) (r : Rate) → rateOf code ≡ some r → rowOf code ≡ r
+unfolding rowOf
+row-is code r e = ap (λ (o : Option Rate). Option·getD o zeroRow) e
+
+pub row-keeps : (code : ℕ) → isNamed code ≡ true → Keeps (rowOf code)
+unfolding isNamed
+row-keeps code n = go (rateOf code) refl n
+  where
+    go : (o : Option Rate) → rateOf code ≡ o → isSome o ≡ true → Keeps (rowOf code)
+    go none e h = absurd (subst T (sym h) tt)
+    go (some r) e h = subst Keeps (sym (row-is code r e)) (named-keeps code r e)
 
 -- ---- what an answer tells of its code
 

@@ -1,6 +1,6 @@
 -- The named rates: document 01, "Rates".
 use mathlib.Core.Bool.{Bool, true, false, cond}
-use mathlib.Core.Option.{Option, none, some}
+use mathlib.Core.Option.{Option, none, some, Option·getD}
 use Prim.Native.Nat.{ℕ, _*_, _^_, _≤_}
 use lib.Dec.{eqb}
 use Rattle.rate.specs.declared.Rate.{Rate}
@@ -32,6 +32,13 @@ rateOf code =
 -- whether a code names a rate
 unfoldable pub isNamed : ℕ → Bool
 isNamed code = isSome (rateOf code)
+
+-- the row of a code; a row of zeros where the code names no rate
+abbrev pub zeroRow : Rate
+zeroRow = record { code = 0; hertz = 0; k = 0; i = 0; d = 0 }
+
+unfoldable pub rowOf : ℕ → Rate
+rowOf code = Option·getD (rateOf code) zeroRow
 
 -- what each case of an answer says: a rate, or that there is none
 unfoldable pub named : Named → Option Rate

@@ -1,0 +1,3 @@
+pub mod Bounds
+mod Differences
+pub mod Search

@@ -1,0 +1,43 @@
+-- The crossing, and the active level at it: document 01, "The report". M is the margin, sq the sum of squares, a the activity counts.
+use mathlib.Core.Bool.{Bool, false, cond, _&&_, _||_}
+use mathlib.Core.List.{List}
+use mathlib.Core.Option.{Option, none, some}
+use Prim.Native.Nat.{ℕ, zero, suc, _+_, _-_}
+use lib.Dec.{eqb, leb, ltb}
+use lib.IntN.{ℤ, pos, negsuc, natAbs, _+ℤ_, _-ℤ_, _*ℤ_}
+use lib.ListN.{getD}
+use lib.Signed.{ltZ, shrZ}
+use Rattle.crossing.specs.Levels.{activeAt, excess}
+
+abbrev pub isZero : ℤ → Bool
+isZero (pos n) = eqb n 0
+isZero (negsuc n) = false
+
+-- a crossing is at j when a_j is above 0 and either d_j is 0, or j is at least 1, d_(j−1) is positive and d_j negative
+unfoldable pub isCrossing : (M sq : ℕ) (a : List ℕ) (j : ℕ) → Bool
+isCrossing M sq a j =
+    let d = excess M sq a in
+    ltb 0 (getD a j 0) && (isZero (d j) || (leb 1 j && ltZ (pos 0) (d (j - 1)) && ltZ (d j) (pos 0)))
+
+-- the lowest of j, j + 1, .., k of them, at which f holds
+unfoldable pub lowestFrom : (ℕ → Bool) → (j k : ℕ) → Option ℕ
+lowestFrom f j zero = none
+lowestFrom f j (suc k) = cond (f j) (some j) (lowestFrom f (j + 1) k)
+
+-- the lowest crossing
+unfoldable pub crossing : (M sq : ℕ) (a : List ℕ) → Option ℕ
+crossing M sq a = lowestFrom (isCrossing M sq a) 0 15
+
+-- a crossing's lower and upper threshold
+unfoldable pub lowerOf : (M sq : ℕ) (a : List ℕ) (j : ℕ) → ℕ
+lowerOf M sq a j = cond (isZero (excess M sq a j)) j (j - 1)
+
+abbrev pub upperOf : (j : ℕ) → ℕ
+upperOf j = j
+
+-- A at a crossing j: A_j where d_j is 0, else A_(j−1) + floor((A_j − A_(j−1))·d_(j−1) / (d_(j−1) − d_j))
+unfoldable pub activeLevel : (M sq : ℕ) (a : List ℕ) (j : ℕ) → ℤ
+activeLevel M sq a j =
+    let A = activeAt sq a in
+    let d = excess M sq a in
+    cond (isZero (d j)) (A j) (A (j - 1) +ℤ shrZ ((A j -ℤ A (j - 1)) *ℤ d (j - 1)) (natAbs (d (j - 1) -ℤ d j)))

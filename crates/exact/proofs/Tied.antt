@@ -1,0 +1,245 @@
+-- The meter tied to E: what holds between them after any samples, and is kept by each. The counts' orders are uses of the one law about two
+-- counters: the meter against E at the threshold and at the threshold raised by D, and each threshold against the next.
+use mathlib.Core.Bool.{Bool, true, false, cond}
+use mathlib.Core.List.{List, [], _∷_}
+use mathlib.Core.Path.{_≡_, refl, sym, _∙_, ap, ap₂, subst}
+use Prim.Native.Nat.{ℕ, zero, suc, _+_, _*_, _-_, _/_, _%_, _^_, _≤_, _<_, zero-le}
+use native.Mathlib.Nat.{le-refl, le-trans, le-of-eq, mul-le-mul, mul-le-mul-right, one-le-pow, pow-suc, div-add-mod', zero-add}
+use native.Mathlib.Numerals.{add-one}
+use native.Mathlib.Omega.{arith}
+use borrow.Author.Tests.{leb-true, le-leb}
+use lib.Dec.{leb, lit<, lit≤}
+use lib.IntN.{ℤ, pos, negsuc, natAbs, subℕ, _+ℤ_}
+use lib.ListN.{getD, length}
+use lib.Pow.{pow-mono}
+use mir.Syntax.{w16}
+use mir.Val.{SFits}
+use Rattle.level.specs.Logarithm.{number}
+use Rattle.sample.specs.declared.Meter.{Meter}
+use Rattle.sample.specs.declared.Setting.{Setting}
+use Rattle.sample.specs.Activity.{counted, hung}
+use Rattle.sample.specs.Envelope.{smooth, rectified, threshold}
+use Rattle.sample.specs.Sample.{fifteen, words, iOf, fresh, summed, sample, samples}
+use Rattle.sample.proofs.Activity.{Under, under-refl, under-step, counted-le, hung-le}
+use Rattle.sample.proofs.Envelope.{smooth-le}
+use Rattle.sample.proofs.Fifteen.{fifteen-at}
+use Rattle.exact.specs.Exact.{E, startAt, reaches, take, takeAll}
+use Rattle.rate.specs.Rates.{Ceiling}
+use Rattle.exact.specs.Demands.{envelopeAfter, exactEnvelopeAfter, EnvelopeBound}
+use Rattle.exact.specs.Lists.{AllSamples}
+use Rattle.exact.proofs.Envelope.{Near, near-step, near-zero, near-below, fed-exact, fed-near, then-exact, then-rounded}
+
+-- ---- one sample's size
+
+sub-abs : (b : Bool) (x y : ℕ) → natAbs (cond b (negsuc (suc y - suc x)) (pos (x - suc y))) ≤ x + suc y
+sub-abs true x y = omega arith
+sub-abs false x y = omega arith
+
+abs-sum : (a b : ℤ) → natAbs (a +ℤ b) ≤ natAbs a + natAbs b
+abs-sum (pos a) (pos b) = le-refl (a + b)
+abs-sum (pos a) (negsuc b) = sub-abs (lib.Dec.ltb a (suc b)) a b
+abs-sum (negsuc a) (pos b) = omega (arith, sub-abs (lib.Dec.ltb b (suc a)) b a)
+abs-sum (negsuc a) (negsuc b) = omega arith
+
+pub small : (x : ℤ) → SFits w16 x → natAbs x ≤ 2 ^ 15
+small (pos n) f = omega (arith, f .sfits)
+small (negsuc n) f = omega (arith, f .sfits)
+
+pub number-words : (N : ℕ) → number (words N) ≡ N
+unfolding words
+number-words N = div-add-mod' N (2 ^ 64)
+
+-- ---- what E keeps
+
+pub same-code : (xs : List ℤ) (e : E) → takeAll e xs .code ≡ e .code
+unfolding takeAll take
+same-code [] e = refl
+same-code (x ∷ xs) e = same-code xs (take e x)
+
+pub same-K : (xs : List ℤ) (e : E) → takeAll e xs .K ≡ e .K
+unfolding takeAll take
+same-K [] e = refl
+same-K (x ∷ xs) e = same-K xs (take e x)
+
+pub same-I : (xs : List ℤ) (e : E) → takeAll e xs .I ≡ e .I
+unfolding takeAll take
+same-I [] e = refl
+same-I (x ∷ xs) e = same-I xs (take e x)
+
+pub total : (xs : List ℤ) (e : E) → takeAll e xs .y ≡ e .y + length xs
+unfolding takeAll take
+total [] e = omega arith
+total (x ∷ xs) e = omega (arith, total xs (take e x))
+
+-- ---- the tie
+
+-- counter j of the meter, against E
+pub record Between (D j n a h : ℕ) (e : E) : Type 0 where
+  pub low : Under (e .u (threshold j + D)) (e .v (threshold j + D)) a h
+  pub high : Under a h (e .u (threshold j)) (e .v (threshold j))
+  pub few : a ≤ n
+  pub held : h ≤ e .I
+
+pub record Tied (D : ℕ) (m : Meter) (e : E) : Type 0 where
+  pub code : m .setting .code ≡ e .code
+  pub taken : m .sums .n ≡ e .y
+  pub power : number (m .sums .sq) ≡ e .sq
+  pub p : Near (2 ^ 20) (e .K) 1 ((2 ^ 20) ^ (e .y)) (m .sums .p) (e .pn)
+  pub q : Near (2 ^ 20) (e .K) 2 ((2 ^ 20) ^ (e .y + 1)) (m .sums .q) (e .qn)
+  pub each : (j : ℕ) → j < 15 → Between D j (m .sums .n) (getD (m .a) j 0) (getD (m .h) j 0) e
+  pub falls : (j : ℕ) → j + 1 < 15 → Under (getD (m .a) (j + 1) 0) (getD (m .h) (j + 1) 0) (getD (m .a) j 0) (getD (m .h) j 0)
+  pub sum : natAbs (m .sums .s) ≤ m .sums .n * 2 ^ 15
+  pub squares : number (m .sums .sq) ≤ m .sums .n * 2 ^ 30
+  pub p-max : m .sums .p ≤ 2 ^ 39
+  pub q-max : m .sums .q ≤ 2 ^ 39
+
+-- two places of two lists of fifteen
+both-at : (f g : ℕ → ℕ) (i j : ℕ) → i < 15 → j < 15 → Under (f i) (g i) (f j) (g j)
+    → Under (getD (fifteen f) i 0) (getD (fifteen g) i 0) (getD (fifteen f) j 0) (getD (fifteen g) j 0)
+both-at f g i j k l u =
+    record {
+      count = omega (arith, fifteen-at f i k, fifteen-at f j l, u .count);
+      hang = omega (arith, fifteen-at g i k, fifteen-at g j l, u .hang);
+    }
+
+more : (s n y : ℕ) → s ≤ n * 2 ^ 30 → y ≤ 2 ^ 15 * 2 ^ 15 → s + y ≤ (n + 1) * 2 ^ 30
+more s n y h k = omega arith
+
+rises : (j : ℕ) → threshold j ≤ threshold (j + 1)
+unfolding threshold
+rises j = pow-mono {i = j + 24} {j = j + 1 + 24} (omega arith)
+
+power-pos : (i : ℕ) → 0 < (2 ^ 20) ^ i
+power-pos i = one-le-pow i (2 ^ 20) (lit≤ tt)
+
+power-next : (i : ℕ) → (2 ^ 20) ^ i * 2 ^ 20 ≡ (2 ^ 20) ^ (i + 1)
+power-next i = sym (ap (λ (k : ℕ). (2 ^ 20) ^ k) (add-one i) ∙ pow-suc (2 ^ 20) i)
+
+module _ (D : ℕ) (m : Meter) (e : E) (x : ℤ) (k0 : 0 < e .K) (kG : e .K ≤ 2 ^ 20) (wide : 2 ^ 21 ≤ D * e .K) (sx : natAbs x ≤ 2 ^ 15) (t : Tied D m e) where
+  -- the envelope after the sample, of the meter and of E
+  P : ℕ
+  P = smooth (e .K) (m .sums .p) (rectified x)
+
+  Q : ℕ
+  Q = smooth (e .K) (m .sums .q) P
+
+  W : ℕ
+  W = (2 ^ 20) ^ (e .y + 1)
+
+  pn : ℕ
+  pn = e .pn * (2 ^ 20 - e .K) + natAbs x * 2 ^ 24 * (2 ^ 20) ^ (e .y) * e .K
+
+  qn : ℕ
+  qn = e .qn * (2 ^ 20 - e .K) + pn * e .K
+
+  p-near : Near (2 ^ 20) (e .K) 1 W P pn
+  unfolding P W pn rectified
+  p-near =
+      subst (λ (w : ℕ). Near (2 ^ 20) (e .K) 1 w P pn) (power-next (e .y))
+      (near-step (e .K) 0 ((2 ^ 20) ^ (e .y)) (m .sums .p) (e .pn) (natAbs x * 2 ^ 24) (natAbs x * 2 ^ 24 * (2 ^ 20) ^ (e .y)) k0 kG (power-pos (e .y)) (t .p)
+      (fed-exact (2 ^ 20) (e .K) ((2 ^ 20) ^ (e .y)) (natAbs x * 2 ^ 24)))
+
+  q-near : Near (2 ^ 20) (e .K) 2 ((2 ^ 20) ^ (e .y + 1 + 1)) Q qn
+  unfolding Q qn W
+  q-near =
+      subst (λ (w : ℕ). Near (2 ^ 20) (e .K) 2 w Q qn) (power-next (e .y + 1))
+      (near-step (e .K) 1 W (m .sums .q) (e .qn) P pn k0 kG (power-pos (e .y + 1)) (t .q) (fed-near p-near))
+
+  -- E is on at a threshold whenever the meter is, and the meter whenever E is on at the threshold raised by D
+  on-exact : (j : ℕ) → leb (threshold j) Q ≡ true → reaches (e .y + 1) qn (threshold j) ≡ true
+  unfolding reaches
+  on-exact j h = le-leb _ _ (then-exact (threshold j) q-near (leb-true _ _ h))
+
+  on-rounded : (j : ℕ) → reaches (e .y + 1) qn (threshold j + D) ≡ true → leb (threshold j) Q ≡ true
+  unfolding reaches
+  on-rounded j h =
+      le-leb _ _ (then-rounded (2 ^ 20) (e .K) 2 ((2 ^ 20) ^ (e .y + 1 + 1)) Q qn D (threshold j) wide q-near (leb-true _ _ h))
+
+  on-lower : (j : ℕ) → leb (threshold (j + 1)) Q ≡ true → leb (threshold j) Q ≡ true
+  on-lower j h = le-leb _ _ (le-trans (rises j) (leb-true _ _ h))
+
+  counter : (j : ℕ) → j < 15
+      → Between D j (m .sums .n + 1) (counted (e .I) (leb (threshold j) Q) (getD (m .a) j 0) (getD (m .h) j 0)) (hung (e .I) (leb (threshold j) Q) (getD (m .h) j 0)) (take e x)
+  unfolding take counted hung qn pn
+  counter j l =
+      let b = t .each j l in
+      record {
+        low = under-step (e .I) _ _ _ _ (reaches (e .y + 1) qn (threshold j + D)) (leb (threshold j) Q) (on-rounded j) (b .low);
+        high = under-step (e .I) _ _ _ _ (leb (threshold j) Q) (reaches (e .y + 1) qn (threshold j)) (on-exact j) (b .high);
+        few = le-trans (counted-le (e .I) (leb (threshold j) Q) (getD (m .a) j 0) (getD (m .h) j 0)) (omega (arith, b .few));
+        held = hung-le (e .I) (leb (threshold j) Q) (getD (m .h) j 0) (b .held);
+      }
+
+  P-max : P ≤ 2 ^ 39
+  unfolding P rectified
+  P-max = smooth-le (e .K) (2 ^ 39) (m .sums .p) (natAbs x * 2 ^ 24) kG (t .p-max) (omega (arith, sx))
+
+  pub tied-step : Tied D (sample (e .K) (e .I) m x) (take e x)
+  unfolding sample summed take P Q W pn qn
+  tied-step =
+      record {
+        code = t .code;
+        taken = ap (λ (i : ℕ). i + 1) (t .taken);
+        power = number-words (number (m .sums .sq) + natAbs x * natAbs x) ∙ ap (λ (s : ℕ). s + natAbs x * natAbs x) (t .power);
+        p = p-near;
+        q = q-near;
+        each = λ j l. subst (λ (h : ℕ). Between D j (m .sums .n + 1) (getD (fifteen counts) j 0) h (take e x)) (sym (fifteen-at hangs j l))
+            (subst (λ (a : ℕ). Between D j (m .sums .n + 1) a (hangs j) (take e x)) (sym (fifteen-at counts j l)) (counter j l));
+        falls = λ j l. both-at counts hangs (j + 1) j l (omega arith)
+            (under-step (e .I) _ _ _ _ (leb (threshold (j + 1)) Q) (leb (threshold j) Q) (on-lower j) (t .falls j l));
+        sum = omega (arith, abs-sum (m .sums .s) x, t .sum, sx);
+        squares = le-trans (le-of-eq (number-words _)) (more (number (m .sums .sq)) (m .sums .n) (natAbs x * natAbs x) (t .squares) (mul-le-mul sx sx));
+        p-max = P-max;
+        q-max = smooth-le (e .K) (2 ^ 39) (m .sums .q) P kG (t .q-max) P-max;
+      }
+    where
+      counts : ℕ → ℕ
+      counts j = counted (e .I) (leb (threshold j) Q) (getD (m .a) j 0) (getD (m .h) j 0)
+
+      hangs : ℕ → ℕ
+      hangs j = hung (e .I) (leb (threshold j) Q) (getD (m .h) j 0)
+
+-- samples in order
+pub tied-samples : (D : ℕ) (xs : List ℤ) (m : Meter) (e : E) → 0 < e .K → e .K ≤ 2 ^ 20 → 2 ^ 21 ≤ D * e .K → AllSamples xs → Tied D m e
+    → Tied D (samples (e .K) (e .I) m xs) (takeAll e xs)
+unfolding samples takeAll AllSamples take
+tied-samples D [] m e k0 kG wide f t = t
+tied-samples D (x ∷ xs) m e k0 kG wide f t =
+    tied-samples D xs (sample (e .K) (e .I) m x) (take e x) k0 kG wide (f .1) (tied-step D m e x k0 kG wide (small x (f .0)) t)
+
+-- a fresh start
+pub tied-fresh : (D : ℕ) (c : Setting) (K : ℕ) → Tied D (fresh c) (startAt (c .code) K (iOf c))
+unfolding fresh startAt
+tied-fresh D c K =
+    record {
+      code = refl;
+      taken = refl;
+      power = number-words 0;
+      p = near-zero (2 ^ 20) K 1 ((2 ^ 20) ^ 0) (lit< tt) (power-pos 0) (lit< tt);
+      q = near-zero (2 ^ 20) K 2 ((2 ^ 20) ^ (0 + 1)) (lit< tt) (power-pos 1) (lit< tt);
+      each = λ j l. record {
+        low = omega (arith, fifteen-at (λ i. 0) j l, fifteen-at (λ i. iOf c) j l);
+        high = omega (arith, fifteen-at (λ i. 0) j l, fifteen-at (λ i. iOf c) j l);
+        few = omega (arith, fifteen-at (λ i. 0) j l);
+        held = omega (arith, fifteen-at (λ i. iOf c) j l);
+      };
+      falls = λ j l. both-at (λ i. 0) (λ i. iOf c) (j + 1) j l (omega arith) (under-refl 0 (iOf c));
+      sum = zero-le;
+      squares = le-of-eq (number-words 0);
+      p-max = zero-le;
+      q-max = zero-le;
+    }
+
+-- ---- the envelope alone
+
+pub envelope-bound : (c : Setting) (K D : ℕ) (xs : List ℤ) → 1 ≤ K → K ≤ 2 ^ 20 → Ceiling (2 ^ 21) K D → AllSamples xs → EnvelopeBound c K D xs
+unfolding startAt
+envelope-bound c K D xs k0 kG d f =
+    let e = startAt (c .code) K (iOf c) in
+    let t = tied-samples D xs (fresh c) e k0 kG (d .not-below) f (tied-fresh D c K) in
+    let near = subst (λ (i : ℕ). Near (2 ^ 20) K 2 ((2 ^ 20) ^ (i + 1)) (envelopeAfter c K xs) (exactEnvelopeAfter c K xs)) (total xs e ∙ zero-add (length xs))
+    (subst (λ (k : ℕ). Near (2 ^ 20) k 2 ((2 ^ 20) ^ (takeAll e xs .y + 1)) (envelopeAfter c K xs) (exactEnvelopeAfter c K xs)) (same-K xs e) (t .q)) in
+    record {
+      never-above = near .low;
+      less-than-D = near-below (2 ^ 20) K 2 ((2 ^ 20) ^ (length xs + 1)) _ _ D (d .not-below) near;
+    }

@@ -1,0 +1,87 @@
+-- E, the plain machine of demand 3: document 01, "One sample". It is fed the rate code and the calls' arguments, and nothing of the meter.
+use mathlib.Core.Bool.{Bool, cond, _&&_}
+use mathlib.Core.List.{List, [], _∷_, _++_}
+use Prim.Native.Nat.{ℕ, suc, _+_, _-_, _*_, _^_}
+use lib.Dec.{eqb, leb, ltb}
+use lib.IntN.{ℤ, natAbs}
+use lib.ListN.{length}
+use Rattle.rate.specs.Rates.{rowOf}
+use Rattle.block.specs.Block.{rateCode, count, before, samples}
+use Rattle.block.specs.Refusals.{sound}
+use Rattle.exact.specs.Lists.{Call, chunk, block}
+
+-- the code with its K and I, the total y, the fractions p = pn/(2^20)^y and q = qn/(2^20)^(y+1), for each threshold c in units a count u(c)
+-- and a hangover v(c), and the sum of x times x over the samples taken
+pub record E : Type 0 where
+  pub code : ℕ
+  pub K : ℕ
+  pub I : ℕ
+  pub y : ℕ
+  pub pn : ℕ
+  pub qn : ℕ
+  pub u : ℕ → ℕ
+  pub v : ℕ → ℕ
+  pub sq : ℕ
+
+-- at first y, p, q and each u are zero and each v is I
+unfoldable pub startAt : (code K I : ℕ) → E
+startAt code K I =
+    record { code = code; K = K; I = I; y = 0; pn = 0; qn = 0; u = λ c. 0; v = λ c. I; sq = 0 }
+
+unfoldable pub start : ℕ → E
+start code = startAt code (rowOf code .k) (rowOf code .i)
+
+-- q ≥ c, for q = qn/(2^20)^(y+1)
+unfoldable pub reaches : (y qn c : ℕ) → Bool
+reaches y qn c = leb (c * (2 ^ 20) ^ (y + 1)) qn
+
+-- after a sample x: p becomes (p(2^20 − K) + |x|·2^24·K)/2^20, then q (q(2^20 − K) + p·K)/2^20 with the new p; the denominators grow with y
+unfoldable pub take : E → ℤ → E
+take e x =
+    let y = e .y + 1 in
+    let pn = e .pn * (2 ^ 20 - e .K) + natAbs x * 2 ^ 24 * (2 ^ 20) ^ (e .y) * e .K in
+    let qn = e .qn * (2 ^ 20 - e .K) + pn * e .K in
+    record {
+      code = e .code;
+      K = e .K;
+      I = e .I;
+      y = y;
+      pn = pn;
+      qn = qn;
+      u = λ c. cond (reaches y qn c) (e .u c + 1) (cond (ltb (e .v c) (e .I)) (e .u c + 1) (e .u c));
+      v = λ c. cond (reaches y qn c) 0 (cond (ltb (e .v c) (e .I)) (e .v c + 1) (e .v c));
+      sq = e .sq + natAbs x * natAbs x;
+    }
+
+unfoldable pub takeAll : E → List ℤ → E
+takeAll e [] = e
+takeAll e (x ∷ xs) = takeAll (take e x) xs
+
+-- which calls E accepts
+unfoldable pub accepts : E → Call → Bool
+accepts e (chunk xs) = leb (length xs) 4096 && leb (e .y + length xs) (2 ^ 48)
+accepts e (block b) = sound b && eqb (rateCode b) (e .code) && eqb (before b) (e .y) && leb (e .y + count b) (2 ^ 48)
+
+-- the samples that a call brings
+unfoldable pub samplesOf : Call → List ℤ
+samplesOf (chunk xs) = xs
+samplesOf (block b) = samples b
+
+-- a refused call changes nothing in E
+unfoldable pub fed : E → Call → E
+fed e call = cond (accepts e call) (takeAll e (samplesOf call)) e
+
+-- E after a list of calls
+unfoldable pub exactly : E → List Call → E
+exactly e [] = e
+exactly e (call ∷ calls) = exactly (fed e call) calls
+
+-- which calls of a list E accepts
+unfoldable pub acceptedByE : E → List Call → List Bool
+acceptedByE e [] = []
+acceptedByE e (call ∷ calls) = accepts e call ∷ acceptedByE (fed e call) calls
+
+-- the samples that E took, in order
+unfoldable pub took : E → List Call → List ℤ
+took e [] = []
+took e (call ∷ calls) = cond (accepts e call) (samplesOf call) [] ++ took (fed e call) calls

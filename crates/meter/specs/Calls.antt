@@ -1,0 +1,53 @@
+-- What each call hands back: document 01, "One sample", "The report" and "Why a call is refused".
+use mathlib.Core.Bool.{Bool, cond}
+use mathlib.Core.List.{List}
+use Prim.Native.Nat.{ℕ}
+use lib.Dec.{eqb}
+use lib.IntN.{ℤ, pos}
+use Rattle.refusal.specs.First.{firstOf}
+use Rattle.block.specs.Block.{samples as samplesIn}
+use Rattle.sample.specs.declared.Meter.{Meter}
+use Rattle.sample.specs.declared.Setting.{Setting}
+use Rattle.sample.specs.Sample.{fifteen, words, kOf, iOf, fresh, samples}
+use Rattle.meter.specs.declared.Report.{Report}
+use Rattle.meter.specs.Refusals.{openRules, chunkRules, blockCallRules}
+use Rattle.meter.specs.Reports.{reportRules, crossingOf, noReport, reportFor}
+
+-- the number given, 0 for accepted, and the meter handed back
+pub record Handed : Type 0 where
+  pub number : ℕ
+  pub meter : Meter
+
+-- and beside them a report
+pub record HandedReport : Type 0 where
+  pub number : ℕ
+  pub meter : Meter
+  pub report : Report
+
+-- the meter of all zeros, beside a refused opening
+unfoldable pub zeroMeter : Meter
+zeroMeter =
+    record {
+      setting = record { code = 0 };
+      sums = record { n = 0; s = pos 0; sq = words 0; p = 0; q = 0 };
+      a = fifteen (λ j. 0);
+      h = fifteen (λ j. 0);
+    }
+
+-- a call that is accepted where the number is 0 hands back the first meter, else the second
+abbrev handed : ℕ → Meter → Meter → Handed
+handed r accepted refused = record { number = r; meter = cond (eqb r 0) accepted refused }
+
+unfoldable pub openCall : Setting → Handed
+openCall c = handed (firstOf (openRules (c .code))) (fresh c) zeroMeter
+
+unfoldable pub chunkCall : Meter → List ℤ → Handed
+chunkCall m xs = handed (firstOf (chunkRules m xs)) (samples (kOf (m .setting)) (iOf (m .setting)) m xs) m
+
+unfoldable pub blockCall : Meter → List ℕ → Handed
+blockCall m b = handed (firstOf (blockCallRules m b)) (samples (kOf (m .setting)) (iOf (m .setting)) m (samplesIn b)) m
+
+unfoldable pub reportCall : Meter → HandedReport
+reportCall m =
+    let r = firstOf (reportRules m) in
+    record { number = r; meter = m; report = cond (eqb r 0) (reportFor m (crossingOf m)) noReport }

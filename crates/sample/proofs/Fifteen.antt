@@ -1,0 +1,27 @@
+-- Lists made from a function: what stands at each place.
+use mathlib.Core.List.{List, []}
+use mathlib.Core.Path.{_≡_, refl, sym, ap, _∙_}
+use Prim.Native.Nat.{ℕ, zero, suc, _+_, _<_}
+use native.Mathlib.Nat.{add-zero, le-of-suc-le-suc, not-suc-le-zero, zero-add}
+use native.Mathlib.Omega.{arith}
+use lib.ListN.{length, getD}
+use Rattle.sample.specs.Sample.{listFrom, fifteen}
+
+list-length : (f : ℕ → ℕ) (j k : ℕ) → length (listFrom f j k) ≡ k
+unfolding listFrom
+list-length f j zero = refl
+list-length f j (suc k) = ap suc (list-length f (j + 1) k)
+
+list-at : (f : ℕ → ℕ) (j k i : ℕ) → i < k → getD (listFrom f j k) i 0 ≡ f (j + i)
+unfolding listFrom
+list-at f j zero i h = absurd (not-suc-le-zero h)
+list-at f j (suc k) zero h = ap f (sym (add-zero j))
+list-at f j (suc k) (suc i) h = list-at f (j + 1) k i (le-of-suc-le-suc h) ∙ ap f (omega arith)
+
+pub fifteen-length : (f : ℕ → ℕ) → length (fifteen f) ≡ 15
+unfolding fifteen
+fifteen-length f = list-length f 0 15
+
+pub fifteen-at : (f : ℕ → ℕ) (j : ℕ) → j < 15 → getD (fifteen f) j 0 ≡ f j
+unfolding fifteen
+fifteen-at f j h = list-at f 0 15 j h ∙ ap f (zero-add j)

@@ -1,0 +1,3 @@
+pub mod Activity
+pub mod Envelope
+pub mod Fifteen

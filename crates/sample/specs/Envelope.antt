@@ -1,0 +1,15 @@
+-- The envelope and its thresholds: document 01, "One sample".
+use Prim.Native.Nat.{ℕ, _+_, _-_, _*_, _/_, _^_}
+use lib.IntN.{ℤ, natAbs}
+
+-- one step of smoothing: floor((old(2^20 − K) + new·K) / 2^20)
+unfoldable pub smooth : (K old new : ℕ) → ℕ
+smooth K old new = (old * (2 ^ 20 - K) + new * K) / 2 ^ 20
+
+-- |x| in units of 2^−24 quantizing interval
+unfoldable pub rectified : ℤ → ℕ
+rectified x = natAbs x * 2 ^ 24
+
+-- threshold c_j in units
+unfoldable pub threshold : ℕ → ℕ
+threshold j = 2 ^ (j + 24)

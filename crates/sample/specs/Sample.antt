@@ -1,0 +1,72 @@
+-- A sample on a meter, and samples in order: document 01, "One sample".
+use mathlib.Core.List.{List, [], _∷_}
+use Prim.Native.Nat.{ℕ, zero, suc, _+_, _*_, _/_, _%_, _^_}
+use lib.Dec.{leb}
+use lib.IntN.{ℤ, pos, natAbs, _+ℤ_}
+use lib.ListN.{getD}
+use Rattle.level.specs.Logarithm.{number}
+use Rattle.level.specs.declared.Squares.{Squares}
+use Rattle.rate.specs.Rates.{rowOf}
+use Rattle.sample.specs.declared.Setting.{Setting}
+use Rattle.sample.specs.declared.Sums.{Sums}
+use Rattle.sample.specs.declared.Meter.{Meter}
+use Rattle.sample.specs.Activity.{counted, hung}
+use Rattle.sample.specs.Envelope.{smooth, rectified, threshold}
+
+-- f(j), f(j + 1), .., k of them
+unfoldable pub listFrom : (ℕ → ℕ) → (j k : ℕ) → List ℕ
+listFrom f j zero = []
+listFrom f j (suc k) = f j ∷ listFrom f (j + 1) k
+
+-- f(j) for j = 0 to 14
+unfoldable pub fifteen : (ℕ → ℕ) → List ℕ
+fifteen f = listFrom f 0 15
+
+-- a number in two words
+unfoldable pub words : ℕ → Squares
+words N = record { high = N / 2 ^ 64; low = N % 2 ^ 64 }
+
+-- K and I of a setting
+unfoldable pub kOf : Setting → ℕ
+kOf c = rowOf (c .code) .k
+
+unfoldable pub iOf : Setting → ℕ
+iOf c = rowOf (c .code) .i
+
+-- the fresh meter: that setting, each h_j = I, all else zero
+unfoldable pub fresh : Setting → Meter
+fresh c =
+    record {
+      setting = c;
+      sums = record { n = 0; s = pos 0; sq = words 0; p = 0; q = 0 };
+      a = fifteen (λ j. 0);
+      h = fifteen (λ j. iOf c);
+    }
+
+-- the sums after a sample x. Q is fed the new P
+unfoldable pub summed : (K : ℕ) → Sums → ℤ → Sums
+summed K m x =
+    let P = smooth K (m .p) (rectified x) in
+    record {
+      n = m .n + 1;
+      s = m .s +ℤ x;
+      sq = words (number (m .sq) + natAbs x * natAbs x);
+      p = P;
+      q = smooth K (m .q) P;
+    }
+
+-- the meter after a sample x
+unfoldable pub sample : (K I : ℕ) → Meter → ℤ → Meter
+sample K I m x =
+    let sums = summed K (m .sums) x in
+    record {
+      setting = m .setting;
+      sums = sums;
+      a = fifteen (λ j. counted I (leb (threshold j) (sums .q)) (getD (m .a) j 0) (getD (m .h) j 0));
+      h = fifteen (λ j. hung I (leb (threshold j) (sums .q)) (getD (m .h) j 0));
+    }
+
+-- the meter after samples in order
+unfoldable pub samples : (K I : ℕ) → Meter → List ℤ → Meter
+samples K I m [] = m
+samples K I m (x ∷ xs) = samples K I (sample K I m x) xs
