@@ -14,9 +14,9 @@ use lib.Pow.{pow-add, pow-pos, pow-mono}
 use lib.Signed.{ltZ, shrZ}
 use Rattle.level.specs.Logarithm.{lev}
 use Rattle.level.proofs.Laws.{facts}
-use Rattle.crossing.specs.Levels.{activeAt, levelOfThreshold, excess}
+use Rattle.crossing.specs.Levels.{longTerm, activeAt, levelOfThreshold, excess}
 use Rattle.crossing.specs.Crossing.{isZero, isCrossing, lowerOf, activeLevel}
-use Rattle.crossing.proofs.Differences.{sub-pos, sub-neg, sub-less, sub-more, sub-sub, above, below, level-with}
+use Rattle.crossing.proofs.Differences.{sub-pos, sub-neg, sub-less, sub-more, sub-sub, sub-both, not-above, above, below, level-with}
 
 -- ---- a level in whole numbers
 
@@ -78,9 +78,10 @@ pub record Crossed (M sq : ℕ) (a : List ℕ) (j : ℕ) : Type 0 where
   pub over : lev (getD a i 0) + 8192 * i + M ≤ lev sq
 
 module _ (M sq : ℕ) (a : List ℕ) (j : ℕ) (cross : isCrossing M sq a j ≡ true) where
-  alive-at : 0 < getD a j 0
+  -- a_j is above 0
+  pub alive : 0 < getD a j 0
   unfolding isCrossing
-  alive-at = ltb-true _ _ (both _ _ cross .0)
+  alive = ltb-true _ _ (both _ _ cross .0)
 
   -- d_j = 0: the level is A_j
   crossed-at : isZero (excess M sq a j) ≡ true → Crossed M sq a j
@@ -91,7 +92,7 @@ module _ (M sq : ℕ) (a : List ℕ) (j : ℕ) (cross : isCrossing M sq a j ≡ 
         i = j;
         lower = simp z;
         reach = le-refl j;
-        alive = alive-at;
+        alive = alive;
         counts = le-refl (getD a j 0);
         f = 0;
         level = simp z (ap (λ (s : ℕ). subℕ s (lev (getD a j 0))) (sym (add-zero (lev sq))));
@@ -112,7 +113,7 @@ module _ (M sq : ℕ) (a : List ℕ) (j : ℕ) (cross : isCrossing M sq a j ≡ 
         i = j - 1;
         lower = simp z;
         reach = omega arith;
-        alive = alive-at;
+        alive = alive;
         counts = falls (c .0);
         f = (la - lb) * x / (x + suc y);
         level = simp z (ap₂ (λ (d e : ℤ). subℕ ls la +ℤ shrZ ((subℕ ls lb -ℤ subℕ ls la) *ℤ d) (natAbs (d -ℤ e))) low-is high-is ∙ interpolated ls la lb x y lev-falls);
@@ -133,7 +134,7 @@ module _ (M sq : ℕ) (a : List ℕ) (j : ℕ) (cross : isCrossing M sq a j ≡ 
       lb = lev (getD a j 0)
 
       lev-falls : lb ≤ la
-      lev-falls = facts .never-falls (getD a j 0) (getD a (j - 1) 0) alive-at (falls (c .0)) few
+      lev-falls = facts .never-falls (getD a j 0) (getD a (j - 1) 0) alive (falls (c .0)) few
 
       low : la + 8192 * (j - 1) + M < ls
       low = above ls (la + 8192 * (j - 1) + M) (ap (ltZ (pos 0)) (sym (excess-is M sq a (j - 1))) ∙ c .1)
@@ -159,6 +160,16 @@ module _ (M sq : ℕ) (a : List ℕ) (j : ℕ) (cross : isCrossing M sq a j ≡ 
       go : (t : Bool) → isZero (excess M sq a j) ≡ t → Crossed M sq a j
       go true z = crossed-at z
       go false z = crossed-over falls few z
+
+-- the factor F = L − A is never above 0, where a_lower is at most n
+pub factor : (M sq n : ℕ) (a : List ℕ) (j : ℕ) → (c : Crossed M sq a j) → getD a (c .i) 0 ≤ n → n ≤ 2 ^ 80
+    → ltZ (pos 0) (longTerm sq n -ℤ activeLevel M sq a j) ≡ false
+unfolding longTerm
+factor M sq n a j c few big =
+    let l = facts .never-falls (getD a (c .i) 0) n (le-trans (c .alive) (c .counts)) few big in
+    ap (λ (z : ℤ). ltZ (pos 0) (subℕ (lev sq) (lev n) -ℤ z)) (c .level)
+    ∙ ap (ltZ (pos 0)) (sub-both (lev sq) (lev n) (lev (getD a (c .i) 0)) (c .f))
+    ∙ not-above (lev (getD a (c .i) 0)) (lev n + c .f) (omega arith)
 
 -- ---- the bounds of demand 3, at any crossing
 

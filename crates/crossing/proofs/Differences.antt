@@ -62,7 +62,38 @@ sub-sub a b c h = go (ltb a b) refl
         let i = ltb-false a b e in
         sub-less a c (a - b) ∙ sub-pos a (c + (a - b)) (omega arith) ∙ ap pos (omega arith)
 
+-- a − b = c − d where a + d = c + b
+pub sub-same : (a b c d : ℕ) → a + d ≡ c + b → subℕ a b ≡ subℕ c d
+sub-same a b c d e = go (ltb a b) refl
+  where
+    go : (t : Bool) → ltb a b ≡ t → subℕ a b ≡ subℕ c d
+    go true q =
+        let l = ltb-true a b q in
+        sub-neg a b l ∙ ap negsuc (omega arith) ∙ sym (sub-neg c d (omega arith))
+    go false q =
+        let l = ltb-false a b q in
+        sub-pos a b l ∙ ap pos (omega arith) ∙ sym (sub-pos c d (omega arith))
+
+-- (a − b) − (a + f − c) = c − (b + f)
+pub sub-both : (a b c f : ℕ) → subℕ a b -ℤ subℕ (a + f) c ≡ subℕ c (b + f)
+sub-both a b c f = go (ltb (a + f) c) refl
+  where
+    go : (t : Bool) → ltb (a + f) c ≡ t → subℕ a b -ℤ (cond t (negsuc (c - suc (a + f))) (pos (a + f - c))) ≡ subℕ c (b + f)
+    go true q =
+        let l = ltb-true (a + f) c q in
+        sub-more a b (suc (c - suc (a + f))) ∙ sub-same (a + suc (c - suc (a + f))) b c (b + f) (omega arith)
+    go false q =
+        let l = ltb-false (a + f) c q in
+        sub-less a b (a + f - c) ∙ sub-same a (b + (a + f - c)) c (b + f) (omega arith)
+
 -- ---- signs
+
+pub not-above : (s t : ℕ) → s ≤ t → ltZ (pos 0) (subℕ s t) ≡ false
+not-above s t h = go (ltb s t) refl
+  where
+    go : (b : Bool) → ltb s t ≡ b → ltZ (pos 0) (cond b (negsuc (t - suc s)) (pos (s - t))) ≡ false
+    go true e = refl
+    go false e = le-ltb 0 (s - t) (let l = ltb-false s t e in omega arith)
 
 pub above : (s t : ℕ) → ltZ (pos 0) (subℕ s t) ≡ true → t < s
 above s t h = go (ltb s t) refl h

@@ -18,7 +18,7 @@ use Rattle.crossing.proofs.Bounds.{Crossed, crossed, Bounded, bounded}
 use Rattle.meter.specs.declared.Report.{Report}
 use Rattle.meter.specs.Reports.{margin, reportAt}
 use Rattle.meter.specs.Calls.{reportCall}
-use Rattle.meter.proofs.Possible.{Possible, passes}
+use Rattle.meter.proofs.Possible.{passes, falling}
 use Rattle.meter.proofs.Reported.{Levels, levels, level-or-refusal}
 use Rattle.exact.specs.Demands.{meterAfter, exactAfter, countAt, LevelBounds, Demand3}
 use Rattle.exact.specs.Exact.{E, start, startAt, takeAll, accepts, fed, samplesOf, exactly}
@@ -36,20 +36,6 @@ kept-code (call ∷ calls) e = kept-code calls (fed e call) ∙ go (accepts e ca
     go true = same-code (samplesOf call) e
     go false = refl
 
--- ---- the counts
-
-never-rises : (m : Meter) (e : E) → Good m e → (i k : ℕ) → i + k < 15 → getD (m .a) (i + k) 0 ≤ getD (m .a) i 0
-never-rises m e g i zero l = le-of-eq (ap (λ (x : ℕ). getD (m .a) x 0) (omega arith))
-never-rises m e g i (suc k) l =
-    let s : i + suc k ≡ i + k + 1 = omega arith in
-    subst (λ (x : ℕ). getD (m .a) x 0 ≤ getD (m .a) i 0) (sym s)
-    (le-trans (g .tied .falls (i + k) (omega arith) .count) (never-rises m e g i k (omega arith)))
-
-falling : (m : Meter) (e : E) → Good m e → (i j : ℕ) → i ≤ j → j < 15 → getD (m .a) j 0 ≤ getD (m .a) i 0
-falling m e g i j h l =
-    let s : i + (j - i) ≡ j = omega arith in
-    subst (λ (x : ℕ). getD (m .a) x 0 ≤ getD (m .a) i 0) s (never-rises m e g i (j - i) (omega (arith, s)))
-
 -- ---- the levels
 
 module _ (m : Meter) (e : E) (g : Good m e) (L : Levels m) where
@@ -63,7 +49,7 @@ module _ (m : Meter) (e : E) (g : Good m e) (L : Levels m) where
   unfolding sq
   cross =
       crossed margin (number (m .sums .sq)) (m .a) (L .j) (L .crosses)
-      (λ h. falling m e g (L .j - 1) (L .j) (omega arith) (L .below))
+      (λ h. falling m (good-possible m e g) (L .j - 1) (L .j) (omega arith) (L .below))
       (few (L .j - 1) (omega (arith, L .below)))
 
   bounds : Bounded margin sq (m .a) (L .j) (countAt e (threshold (cross .i))) (countAt e (threshold (L .j) + rowOf (e .code) .d))
@@ -103,7 +89,7 @@ demand3 code calls n f =
       same-calls = same-answers calls (fresh (record { code = code })) (start code) f start-good;
       at-most = λ j l. g .tied .each j l .high .count;
       at-least = λ j l. subst (λ (c : ℕ). countAt (exactAfter code calls) (threshold j + rowOf c .d) ≤ getD (meterAfter code calls .a) j 0) (code-is code calls) (g .tied .each j l .low .count);
-      never-rises = falling (meterAfter code calls) (exactAfter code calls) g;
+      never-rises = falling (meterAfter code calls) (good-possible _ _ g);
       level-or-refusal = level-or-refusal (meterAfter code calls) (passes _ (good-possible _ _ g));
       levels = λ z. subst (λ (c : ℕ). LevelBounds (reportCall (meterAfter code calls) .report) (exactAfter code calls) (rowOf c .d)) (code-is code calls)
           (level-bounds (meterAfter code calls) (exactAfter code calls) g (levels (meterAfter code calls) z));

@@ -1,2 +1,3 @@
+pub mod Laws
 pub mod Possible
 pub mod Reported

@@ -2,8 +2,8 @@
 use mathlib.Core.Bool.{Bool, true, false, not, _||_}
 use mathlib.Core.Logic.{⊎-elim}
 use mathlib.Core.Path.{_≡_, refl, sym, ap, _∙_, subst}
-use Prim.Native.Nat.{ℕ, zero, suc, _+_, _*_, _^_, _≤_, _<_}
-use native.Mathlib.Nat.{eq-or-lt-of-le, le-of-suc-le-suc, not-suc-le-zero, le-suc, lt-of-lt-of-le}
+use Prim.Native.Nat.{ℕ, zero, suc, _+_, _-_, _*_, _^_, _≤_, _<_}
+use native.Mathlib.Nat.{eq-or-lt-of-le, le-of-suc-le-suc, not-suc-le-zero, le-suc, le-of-eq, le-trans, lt-of-lt-of-le, add-zero}
 use native.Mathlib.Omega.{arith}
 use borrow.Author.Tests.{le-ltb, ltb-false, not-false}
 use lib.Dec.{T, ltb}
@@ -114,3 +114,16 @@ possible m h =
       a-falls = λ j l. ltb-false _ _ (each-below 14 _ (h7 .1) j l);
       h-rises = λ j l. ltb-false _ _ (each-below 14 _ (h8 .1) j l);
     }
+
+-- ---- counts that fall from each place to the next fall over any number of places
+
+fall : (f : ℕ → ℕ) (n : ℕ) → ((j : ℕ) → j < n → f (j + 1) ≤ f j) → (i k : ℕ) → i + k ≤ n → f (i + k) ≤ f i
+fall f n h i zero l = le-of-eq (ap f (add-zero i))
+fall f n h i (suc k) l =
+    let s : i + suc k ≡ i + k + 1 = omega arith in
+    subst (λ (x : ℕ). f x ≤ f i) (sym s) (le-trans (h (i + k) (omega arith)) (fall f n h i k (omega arith)))
+
+pub falling : (m : Meter) → Possible m → (i j : ℕ) → i ≤ j → j < 15 → getD (m .a) j 0 ≤ getD (m .a) i 0
+falling m p i j h l =
+    let s : i + (j - i) ≡ j = omega arith in
+    subst (λ (x : ℕ). getD (m .a) x 0 ≤ getD (m .a) i 0) s (fall (λ x. getD (m .a) x 0) 14 (p .a-falls) i (j - i) (omega arith))

@@ -75,6 +75,10 @@ row-keeps code n = go (rateOf code) refl n
     go none e h = absurd (subst T (sym h) tt)
     go (some r) e h = subst Keeps (sym (row-is code r e)) (named-keeps code r e)
 
+pub zero-unnamed : isNamed 0 ≡ false
+unfolding isNamed rateOf
+zero-unnamed = refl
+
 -- ---- what an answer tells of its code
 
 pub named-as : (code : ℕ) (n : Named) (r : Rate) → named n ≡ rateOf code → n ≡ As r → rateOf code ≡ some r
