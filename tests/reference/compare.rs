@@ -143,3 +143,20 @@ pub fn exact(script: &[u8]) -> Option<Tally> {
         &lines.iter().map(String::as_str).collect::<Vec<_>>(),
     ))
 }
+
+/// E's counts after a script, at each c_j and then at each c_j + D; None where there is no E.
+pub fn counts(script: &[u8]) -> Option<String> {
+    let mut comparison = Comparison {
+        exact: None,
+        tally: Tally::new(),
+    };
+    let (calls, bad) = read(script);
+    let mut player = Player::new();
+    for (k, call) in calls.iter().enumerate() {
+        let line = player.answer(call);
+        comparison.line(k + 1, call, &line);
+    }
+    let exact = comparison.exact.filter(|_| !bad)?;
+    let counts: Vec<String> = exact.counts().map(|u| u.to_string()).collect();
+    Some(format!("counts {}\n", counts.join(" ")))
+}

@@ -114,6 +114,11 @@ impl Exact {
         found.expect("E was opened with this threshold").u
     }
 
+    /// E's counts, in the order of the thresholds it was opened with.
+    pub fn counts(&self) -> impl Iterator<Item = u64> + '_ {
+        self.counts.iter().map(|count| count.u)
+    }
+
     /// Demand 3: no a_j is above E's count at c_j.
     pub fn counts_from_above(&self, a: &[u64]) -> bool {
         (0..15).all(|j| a[j] <= self.count(c(j)))

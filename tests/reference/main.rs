@@ -69,12 +69,16 @@ fn run(arguments: &[&str]) -> io::Result<bool> {
         ["generate", kind, seed, count] => generate(kind, seed, count),
         ["figures"] => Ok(figures::figures()),
         ["exact"] => counted(compare::exact(&input()?)),
+        ["counts"] => match compare::counts(&input()?) {
+            Some(line) => output(line.as_bytes()),
+            None => error("a script opens with a named code and has no bad record"),
+        },
         ["agrees", script, printed] => {
             let script = std::fs::read(script)?;
             counted(compare::agrees(&script, &std::fs::read_to_string(printed)?))
         }
         _ => error(
-            "replay | host | generate KIND SEED COUNT | figures | exact | agrees SCRIPT OUTPUT",
+            "replay | host | generate KIND SEED COUNT | figures | exact | counts | agrees SCRIPT OUTPUT",
         ),
     }
 }

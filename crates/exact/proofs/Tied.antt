@@ -23,7 +23,7 @@ use Rattle.sample.specs.Sample.{fifteen, words, iOf, fresh, summed, sample, sam
 use Rattle.sample.proofs.Activity.{Under, under-refl, under-step, counted-le, hung-le}
 use Rattle.sample.proofs.Envelope.{smooth-le}
 use Rattle.sample.proofs.Fifteen.{fifteen-at}
-use Rattle.exact.specs.Exact.{E, startAt, reaches, take, takeAll}
+use Rattle.exact.specs.Exact.{E, startAt, reaches, countNext, hangoverNext, take, takeAll}
 use Rattle.rate.specs.Rates.{Ceiling}
 use Rattle.exact.specs.Demands.{envelopeAfter, exactEnvelopeAfter, EnvelopeBound}
 use Rattle.exact.specs.Lists.{AllSamples}
@@ -160,7 +160,7 @@ module _ (D : ℕ) (m : Meter) (e : E) (x : ℤ) (k0 : 0 < e .K) (kG : e .K ≤ 
 
   counter : (j : ℕ) → j < 15
       → Between D j (m .sums .n + 1) (counted (e .I) (leb (threshold j) Q) (getD (m .a) j 0) (getD (m .h) j 0)) (hung (e .I) (leb (threshold j) Q) (getD (m .h) j 0)) (take e x)
-  unfolding take counted hung qn pn
+  unfolding take countNext hangoverNext counted hung qn pn
   counter j l =
       let b = t .each j l in
       record {

@@ -1,7 +1,7 @@
 -- E, the plain machine of demand 3: document 01, "One sample". It is fed the rate code and the calls' arguments, and nothing of the meter.
 use mathlib.Core.Bool.{Bool, cond, _&&_}
 use mathlib.Core.List.{List, [], _∷_, _++_}
-use Prim.Native.Nat.{ℕ, suc, _+_, _-_, _*_, _^_}
+use Prim.Native.Nat.{ℕ, _+_, _-_, _*_, _^_}
 use lib.Dec.{eqb, leb, ltb}
 use lib.IntN.{ℤ, natAbs}
 use lib.ListN.{length}
@@ -35,6 +35,13 @@ start code = startAt code (rowOf code .k) (rowOf code .i)
 unfoldable pub reaches : (y qn c : ℕ) → Bool
 reaches y qn c = leb (c * (2 ^ 20) ^ (y + 1)) qn
 
+-- a count and a hangover after a sample: if q ≥ c, u grows by 1 and v becomes 0; else if v < I, both grow by 1; else nothing
+unfoldable pub countNext : (I : ℕ) (on : Bool) (u v : ℕ) → ℕ
+countNext I on u v = cond on (u + 1) (cond (ltb v I) (u + 1) u)
+
+unfoldable pub hangoverNext : (I : ℕ) (on : Bool) (v : ℕ) → ℕ
+hangoverNext I on v = cond on 0 (cond (ltb v I) (v + 1) v)
+
 -- after a sample x: p becomes (p(2^20 − K) + |x|·2^24·K)/2^20, then q (q(2^20 − K) + p·K)/2^20 with the new p; the denominators grow with y
 unfoldable pub take : E → ℤ → E
 take e x =
@@ -48,8 +55,8 @@ take e x =
       y = y;
       pn = pn;
       qn = qn;
-      u = λ c. cond (reaches y qn c) (e .u c + 1) (cond (ltb (e .v c) (e .I)) (e .u c + 1) (e .u c));
-      v = λ c. cond (reaches y qn c) 0 (cond (ltb (e .v c) (e .I)) (e .v c + 1) (e .v c));
+      u = λ c. countNext (e .I) (reaches y qn c) (e .u c) (e .v c);
+      v = λ c. hangoverNext (e .I) (reaches y qn c) (e .v c);
       sq = e .sq + natAbs x * natAbs x;
     }
 

@@ -81,7 +81,8 @@ given rules s =
     record {
       holds = only-where rules;
       lowest-one = λ k l a. omega (arith, lowest rules k s a .1);
-      none-applies = λ z k a. omega (arith, lowest rules k s a .0) }
+      none-applies = λ z k a. omega (arith, lowest rules k s a .0);
+    }
 
 -- a block is taken exactly when none of 2 and 4 to 11 applies
 pub block-taken : (m : Meter) (b : List ℕ) → (blockCall m b .number ≡ 0) ↔ ((k : ℕ) → applies (blockCallRules m b) k ≡ false)
@@ -126,9 +127,10 @@ module _ (m : Meter) (z : reportCall m .number ≡ 0) where
 
   count-exists : (i : ℕ) → i ≤ L .j → (1 ≤ getD (m .a) i 0) × (getD (m .a) i 0 ≤ 2 ^ 80)
   count-exists i h =
-      let p = L .possible in
-      (le-trans (alive margin _ (m .a) (L .j) (L .crosses)) (falling m p i (L .j) h (L .below)),
-       omega (arith, p .a-max i (lt-of-le-of-lt h (L .below)), p .n-max))
+      let p = L .possible in (
+        le-trans (alive margin _ (m .a) (L .j) (L .crosses)) (falling m p i (L .j) h (L .below)),
+        omega (arith, p .a-max i (lt-of-le-of-lt h (L .below)), p .n-max),
+      )
 
   -- the numbers whose levels it takes, sq, n and each a_i up to the upper threshold, all have one
   pub level-exists : (1 ≤ number (m .sums .sq)) × (number (m .sums .sq) ≤ 2 ^ 80) × (1 ≤ m .sums .n) × (m .sums .n ≤ 2 ^ 80)

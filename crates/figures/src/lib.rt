@@ -1,0 +1,1 @@
+// Worked figures, proved as one table.
