@@ -18,11 +18,12 @@ use Rattle.refusal.specs.First.{firstOf}
 use Rattle.block.specs.Block.{number, signed, rateCode, count, before, samplesAt, samples as samplesIn}
 use Rattle.block.proofs.Laws.{signed-fits}
 use Rattle.block.specs.Refusals.{wrongLength, wrongCheck, wrongKind, wrongRate, wrongCount, usedUnused, blockRules, sound}
-use Rattle.sample.specs.declared.Meter.{Meter}
-use Rattle.sample.specs.declared.Setting.{Setting}
-use Rattle.sample.specs.Sample.{kOf, iOf, fresh, sample, samples}
+use Rattle.sample.specs.declared.State.{State}
+use Rattle.sample.specs.Sample.{freshState, samples}
+use Rattle.meter.specs.declared.Meter.{Meter}
+use Rattle.meter.specs.Settings.{kOf, iOf}
 use Rattle.meter.specs.Refusals.{impossible, longChunk, wrongPlace, tooMany, chunkRules, blockCallRules}
-use Rattle.meter.specs.Calls.{Handed, chunkCall, blockCall}
+use Rattle.meter.specs.Calls.{Handed, fresh, afterSamples, chunkCall, blockCall}
 use Rattle.meter.proofs.Possible.{Possible, passes}
 use Rattle.exact.specs.Exact.{E, startAt, start, take, takeAll, accepts, samplesOf, fed, exactly, acceptedByE}
 use Rattle.exact.specs.Lists.{Call, chunk, block, AllSamples, Typed, called, after, accepted}
@@ -71,29 +72,30 @@ pub record Good (m : Meter) (e : E) : Type 0 where
   pub named : isNamed (e .code) ≡ true
   pub K-is : e .K ≡ rowOf (e .code) .k
   pub I-is : e .I ≡ rowOf (e .code) .i
-  pub few : m .sums .n ≤ 2 ^ 48
-  pub tied : Tied (rowOf (e .code) .d) m e
+  pub code : m .setting .code ≡ e .code
+  pub few : m .state .sums .n ≤ 2 ^ 48
+  pub tied : Tied (rowOf (e .code) .d) (m .state) e
 
 module _ (m : Meter) (e : E) (g : Good m e) where
   k-of : kOf (m .setting) ≡ e .K
   unfolding kOf
-  k-of = ap (λ (c : ℕ). rowOf c .k) (g .tied .code) ∙ sym (g .K-is)
+  k-of = ap (λ (c : ℕ). rowOf c .k) (g .code) ∙ sym (g .K-is)
 
   i-of : iOf (m .setting) ≡ e .I
   unfolding iOf
-  i-of = ap (λ (c : ℕ). rowOf c .i) (g .tied .code) ∙ sym (g .I-is)
+  i-of = ap (λ (c : ℕ). rowOf c .i) (g .code) ∙ sym (g .I-is)
 
   pub good-possible : Possible m
   good-possible =
       let t = g .tied in
       record {
-        named = ap isNamed (t .code) ∙ g .named;
+        named = ap isNamed (g .code) ∙ g .named;
         n-max = g .few;
         s-max = t .sum;
         sq-max = t .squares;
         p-max = t .p-max;
         q-max = t .q-max;
-        h-max = λ j l. subst (λ (i : ℕ). getD (m .h) j 0 ≤ i) (sym i-of) (t .each j l .held);
+        h-max = λ j l. subst (λ (i : ℕ). getD (m .state .h) j 0 ≤ i) (sym i-of) (t .each j l .held);
         a-max = λ j l. t .each j l .few;
         a-falls = λ j l. t .falls j (omega arith) .count;
         h-rises = λ j l. t .falls j (omega arith) .hang;
@@ -103,35 +105,37 @@ module _ (m : Meter) (e : E) (g : Good m e) where
   pub agree : (call : Call) → eqb (called m call .number) 0 ≡ accepts e call
   unfolding called chunkCall blockCall chunkRules blockCallRules blockRules accepts sound longChunk wrongPlace tooMany wrongRate
   agree (chunk xs) =
-      chunk-answer (impossible m) (ltb 4096 (length xs)) (ltb (2 ^ 48) (m .sums .n + length xs)) (passes m good-possible)
-      ∙ ap₂ _&&_ (not-above 4096 (length xs)) (not-above (2 ^ 48) (m .sums .n + length xs) ∙ ap (λ (y : ℕ). leb (y + length xs) (2 ^ 48)) (g .tied .taken))
+      chunk-answer (impossible m) (ltb 4096 (length xs)) (ltb (2 ^ 48) (m .state .sums .n + length xs)) (passes m good-possible)
+      ∙ ap₂ _&&_ (not-above 4096 (length xs)) (not-above (2 ^ 48) (m .state .sums .n + length xs) ∙ ap (λ (y : ℕ). leb (y + length xs) (2 ^ 48)) (g .tied .taken))
   agree (block b) =
       block-answer (impossible m) (wrongLength b) (wrongCheck b) (wrongKind b) (eqb (rateCode b) (m .setting .code)) (wrongCount b) (usedUnused b) (isNamed (rateCode b))
-      (eqb (before b) (m .sums .n)) (ltb (2 ^ 48) (m .sums .n + count b)) (passes m good-possible)
-      (λ h. ap isNamed (eqb-true _ _ h ∙ g .tied .code) ∙ g .named)
-      ∙ rw (not-above (2 ^ 48) (m .sums .n + count b), g .tied .code, g .tied .taken)
+      (eqb (before b) (m .state .sums .n)) (ltb (2 ^ 48) (m .state .sums .n + count b)) (passes m good-possible)
+      (λ h. ap isNamed (eqb-true _ _ h ∙ g .code) ∙ g .named)
+      ∙ rw (not-above (2 ^ 48) (m .state .sums .n + count b), g .code, g .tied .taken)
 
   -- the tie is kept by the samples of an accepted call
-  good-samples : (xs : List ℤ) → AllSamples xs → e .y + length xs ≤ 2 ^ 48 → Good (samples (kOf (m .setting)) (iOf (m .setting)) m xs) (takeAll e xs)
+  good-samples : (xs : List ℤ) → AllSamples xs → e .y + length xs ≤ 2 ^ 48 → Good (afterSamples m xs) (takeAll e xs)
+  unfolding afterSamples
   good-samples xs f room =
-      subst (λ (k : ℕ). Good (samples k (iOf (m .setting)) m xs) (takeAll e xs)) (sym k-of)
-      (subst (λ (i : ℕ). Good (samples (e .K) i m xs) (takeAll e xs)) (sym i-of)
-      (record {
+      record {
         named = ap isNamed (same-code xs e) ∙ g .named;
         K-is = same-K xs e ∙ g .K-is ∙ ap (λ (c : ℕ). rowOf c .k) (sym (same-code xs e));
         I-is = same-I xs e ∙ g .I-is ∙ ap (λ (c : ℕ). rowOf c .i) (sym (same-code xs e));
+        code = g .code ∙ sym (same-code xs e);
         few = subst (λ (n : ℕ). n ≤ 2 ^ 48) (sym (tied-on .taken ∙ total xs e)) room;
-        tied = subst (λ (c : ℕ). Tied (rowOf c .d) (samples (e .K) (e .I) m xs) (takeAll e xs)) (sym (same-code xs e)) tied-on;
-      }))
+        tied = subst (λ (c : ℕ). Tied (rowOf c .d) (samples (kOf (m .setting)) (iOf (m .setting)) (m .state) xs) (takeAll e xs)) (sym (same-code xs e)) tied-on;
+      }
     where
-      tied-on : Tied (rowOf (e .code) .d) (samples (e .K) (e .I) m xs) (takeAll e xs)
+      tied-on : Tied (rowOf (e .code) .d) (samples (kOf (m .setting)) (iOf (m .setting)) (m .state) xs) (takeAll e xs)
       tied-on =
           let r = row-keeps (e .code) (g .named) in
-          tied-samples (rowOf (e .code) .d) xs m e
+          subst (λ (k : ℕ). Tied (rowOf (e .code) .d) (samples k (iOf (m .setting)) (m .state) xs) (takeAll e xs)) (sym k-of)
+          (subst (λ (i : ℕ). Tied (rowOf (e .code) .d) (samples (e .K) i (m .state) xs) (takeAll e xs)) (sym i-of)
+          (tied-samples (rowOf (e .code) .d) xs (m .state) e
           (subst (λ (k : ℕ). 1 ≤ k) (sym (g .K-is)) (r .k-low))
           (subst (λ (k : ℕ). k ≤ 2 ^ 20) (sym (g .K-is)) (r .k-high))
           (subst (λ (k : ℕ). 2 ^ 21 ≤ rowOf (e .code) .d * k) (sym (g .K-is)) (r .d-rule .not-below))
-          f (g .tied)
+          f (g .tied)))
 
 -- ---- a call, and a list of calls
 
@@ -151,7 +155,7 @@ both true y h = (refl, h)
 both false y h = absurd (subst T (sym h) tt)
 
 good-taken : (m : Meter) (e : E) (g : Good m e) (call : Call) → Typed (call ∷ []) → accepts e call ≡ true
-    → Good (samples (kOf (m .setting)) (iOf (m .setting)) m (samplesOf call)) (takeAll e (samplesOf call))
+    → Good (afterSamples m (samplesOf call)) (takeAll e (samplesOf call))
 unfolding accepts samplesOf Typed samplesIn
 good-taken m e g (chunk xs) f h = good-samples m e g xs (f .0) (leb-true _ _ (both (leb (length xs) 4096) _ h .1))
 good-taken m e g (block b) f h =
@@ -159,23 +163,23 @@ good-taken m e g (block b) f h =
     (subst (λ (k : ℕ). e .y + k ≤ 2 ^ 48) (sym (block-length b 12 (count b))) (leb-true _ _ (both (sound b && eqb (rateCode b) (e .code) && eqb (before b) (e .y)) _ h .1)))
 
 -- what a call hands back, by its answer
-handed-meter : (m : Meter) (call : Call) → called m call .meter ≡ cond (eqb (called m call .number) 0) (samples (kOf (m .setting)) (iOf (m .setting)) m (samplesOf call)) m
+handed-meter : (m : Meter) (call : Call) → called m call .meter ≡ cond (eqb (called m call .number) 0) (afterSamples m (samplesOf call)) m
 unfolding called chunkCall blockCall samplesOf
 handed-meter m (chunk xs) = refl
 handed-meter m (block b) = refl
 
 pub call-meter : (m : Meter) (e : E) → Good m e → (call : Call)
-    → called m call .meter ≡ cond (accepts e call) (samples (kOf (m .setting)) (iOf (m .setting)) m (samplesOf call)) m
+    → called m call .meter ≡ cond (accepts e call) (afterSamples m (samplesOf call)) m
 call-meter m e g call =
     handed-meter m call
-    ∙ ap (λ (t : Bool). cond t (samples (kOf (m .setting)) (iOf (m .setting)) m (samplesOf call)) m) (agree m e g call)
+    ∙ ap (λ (t : Bool). cond t (afterSamples m (samplesOf call)) m) (agree m e g call)
 
 pub good-call : (m : Meter) (e : E) → Good m e → (call : Call) → Typed (call ∷ []) → Good (called m call .meter) (fed e call)
 unfolding fed
 good-call m e g call f = subst (λ (n : Meter). Good n (fed e call)) (sym (call-meter m e g call)) (go (accepts e call) refl)
   where
     go : (t : Bool) → accepts e call ≡ t
-        → Good (cond t (samples (kOf (m .setting)) (iOf (m .setting)) m (samplesOf call)) m) (cond t (takeAll e (samplesOf call)) e)
+        → Good (cond t (afterSamples m (samplesOf call)) m) (cond t (takeAll e (samplesOf call)) e)
     go true h = good-taken m e g call f h
     go false h = g
 
@@ -200,15 +204,13 @@ same-answers (call ∷ calls) m e f g =
     ap₂ _∷_ (agree m e g call) (same-answers calls (called m call .meter) (fed e call) (s .1) (good-call m e g call (s .0)))
 
 pub good-fresh : (code : ℕ) → isNamed code ≡ true → Good (fresh (record { code = code })) (start code)
-unfolding start startAt fresh iOf
+unfolding start startAt fresh freshState iOf
 good-fresh code n =
     record {
       named = n;
       K-is = refl;
       I-is = refl;
+      code = refl;
       few = zero-le;
-      tied = tied-start (record { code = code });
+      tied = tied-fresh (rowOf code .d) code (rowOf code .k) (rowOf code .i);
     }
-  where
-    tied-start : (c : Setting) → Tied (rowOf (c .code) .d) (fresh c) (startAt (c .code) (rowOf (c .code) .k) (rowOf (c .code) .i))
-    tied-start c = tied-fresh (rowOf (c .code) .d) c (rowOf (c .code) .k)

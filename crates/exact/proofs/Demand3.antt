@@ -10,14 +10,13 @@ use lib.IntN.{ℤ, pos}
 use lib.ListN.{length, getD}
 use Rattle.level.specs.Logarithm.{number}
 use Rattle.rate.specs.Rates.{rowOf, isNamed}
-use Rattle.sample.specs.declared.Meter.{Meter}
 use Rattle.sample.specs.Envelope.{threshold}
-use Rattle.sample.specs.Sample.{fresh}
 use Rattle.crossing.specs.Crossing.{lowerOf, activeLevel}
 use Rattle.crossing.proofs.Bounds.{Crossed, crossed, Bounded, bounded}
+use Rattle.meter.specs.declared.Meter.{Meter}
 use Rattle.meter.specs.declared.Report.{Report}
 use Rattle.meter.specs.Reports.{margin, reportAt}
-use Rattle.meter.specs.Calls.{reportCall}
+use Rattle.meter.specs.Calls.{fresh, reportCall}
 use Rattle.meter.proofs.Possible.{passes, falling}
 use Rattle.meter.proofs.Reported.{Levels, levels, level-or-refusal}
 use Rattle.exact.specs.Demands.{meterAfter, exactAfter, countAt, LevelBounds, Demand3}
@@ -40,23 +39,23 @@ kept-code (call ∷ calls) e = kept-code calls (fed e call) ∙ go (accepts e ca
 
 module _ (m : Meter) (e : E) (g : Good m e) (L : Levels m) where
   sq : ℕ
-  sq = number (m .sums .sq)
+  sq = number (m .state .sums .sq)
 
-  few : (j : ℕ) → j < 15 → getD (m .a) j 0 ≤ 2 ^ 80
+  few : (j : ℕ) → j < 15 → getD (m .state .a) j 0 ≤ 2 ^ 80
   few j l = omega (arith, g .tied .each j l .few, g .few)
 
-  cross : Crossed margin sq (m .a) (L .j)
+  cross : Crossed margin sq (m .state .a) (L .j)
   unfolding sq
   cross =
-      crossed margin (number (m .sums .sq)) (m .a) (L .j) (L .crosses)
+      crossed margin (number (m .state .sums .sq)) (m .state .a) (L .j) (L .crosses)
       (λ h. falling m (good-possible m e g) (L .j - 1) (L .j) (omega arith) (L .below))
       (few (L .j - 1) (omega (arith, L .below)))
 
-  bounds : Bounded margin sq (m .a) (L .j) (countAt e (threshold (cross .i))) (countAt e (threshold (L .j) + rowOf (e .code) .d))
+  bounds : Bounded margin sq (m .state .a) (L .j) (countAt e (threshold (cross .i))) (countAt e (threshold (L .j) + rowOf (e .code) .d))
   unfolding sq
   bounds =
       let below : cross .i < 15 = omega (arith, cross .reach, L .below) in
-      bounded margin (number (m .sums .sq)) (m .a) (L .j) _ _ (omega arith) (L .sq-pos) (omega (arith, g .tied .squares, g .few)) cross
+      bounded margin (number (m .state .sums .sq)) (m .state .a) (L .j) _ _ (omega arith) (L .sq-pos) (omega (arith, g .tied .squares, g .few)) cross
       (few (cross .i) below) (g .tied .each (cross .i) below .high .count) (g .tied .each (L .j) (L .below) .low .count)
 
   at-crossing : LevelBounds (reportAt m (L .j)) e (rowOf (e .code) .d)
@@ -67,8 +66,8 @@ module _ (m : Meter) (e : E) (g : Good m e) (L : Levels m) where
         A = b .A;
         reported = b .reported;
         above-zero = b .above-zero;
-        plus-two = subst (λ (s : ℕ). s ^ 4096 < 2 ^ (b .A + 2) * countAt e (threshold (lowerOf margin (number (m .sums .sq)) (m .a) (L .j))) ^ 4096) (g .tied .power)
-            (subst (λ (i : ℕ). number (m .sums .sq) ^ 4096 < 2 ^ (b .A + 2) * countAt e (threshold i) ^ 4096) (sym (cross .lower)) (b .plus));
+        plus-two = subst (λ (s : ℕ). s ^ 4096 < 2 ^ (b .A + 2) * countAt e (threshold (lowerOf margin (number (m .state .sums .sq)) (m .state .a) (L .j))) ^ 4096) (g .tied .power)
+            (subst (λ (i : ℕ). number (m .state .sums .sq) ^ 4096 < 2 ^ (b .A + 2) * countAt e (threshold i) ^ 4096) (sym (cross .lower)) (b .plus));
         less-two = subst (λ (s : ℕ). 2 ^ b .A * countAt e (threshold (L .j) + rowOf (e .code) .d) ^ 4096 < 4 * s ^ 4096) (g .tied .power) (b .less);
       }
 
@@ -88,7 +87,7 @@ demand3 code calls n f =
     record {
       same-calls = same-answers calls (fresh (record { code = code })) (start code) f start-good;
       at-most = λ j l. g .tied .each j l .high .count;
-      at-least = λ j l. subst (λ (c : ℕ). countAt (exactAfter code calls) (threshold j + rowOf c .d) ≤ getD (meterAfter code calls .a) j 0) (code-is code calls) (g .tied .each j l .low .count);
+      at-least = λ j l. subst (λ (c : ℕ). countAt (exactAfter code calls) (threshold j + rowOf c .d) ≤ getD (meterAfter code calls .state .a) j 0) (code-is code calls) (g .tied .each j l .low .count);
       never-rises = falling (meterAfter code calls) (good-possible _ _ g);
       level-or-refusal = level-or-refusal (meterAfter code calls) (passes _ (good-possible _ _ g));
       levels = λ z. subst (λ (c : ℕ). LevelBounds (reportCall (meterAfter code calls) .report) (exactAfter code calls) (rowOf c .d)) (code-is code calls)

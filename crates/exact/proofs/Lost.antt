@@ -9,9 +9,12 @@ use lib.IntN.{ℤ, pos, natAbs, _+ℤ_, +ℤ-idl, +ℤ-idr, +ℤ-assoc}
 use lib.ListN.{length, length-append}
 use Rattle.level.specs.Logarithm.{number}
 use Rattle.rate.specs.Rates.{isNamed}
-use Rattle.sample.specs.declared.Meter.{Meter}
+use Rattle.sample.specs.declared.State.{State}
 use Rattle.sample.specs.declared.Sums.{Sums}
-use Rattle.sample.specs.Sample.{kOf, iOf, fresh, summed, sample, samples}
+use Rattle.sample.specs.Sample.{freshState, summed, sample, samples}
+use Rattle.meter.specs.declared.Meter.{Meter}
+use Rattle.meter.specs.Settings.{kOf, iOf}
+use Rattle.meter.specs.Calls.{fresh, afterSamples}
 use Rattle.meter.proofs.Possible.{passes}
 use Rattle.exact.specs.Demands.{meterAfter, exactAfter, sum, sumOfSquares, NothingLost}
 use Rattle.exact.specs.Exact.{E, startAt, start, take, takeAll, accepts, samplesOf, fed, exactly, took}
@@ -59,32 +62,32 @@ grown-one K x m e =
       exact = omega arith;
     }
 
-grown-samples : (K I : ℕ) (xs : List ℤ) (m : Meter) (e : E) → Grown xs (m .sums) (samples K I m xs .sums) (e .sq) (takeAll e xs .sq)
+grown-samples : (K I : ℕ) (xs : List ℤ) (m : State) (e : E) → Grown xs (m .sums) (samples K I m xs .sums) (e .sq) (takeAll e xs .sq)
 unfolding samples takeAll sample
 grown-samples K I [] m e = grown-none (m .sums) (e .sq)
 grown-samples K I (x ∷ xs) m e =
     grown-more (x ∷ []) xs (m .sums) (summed K (m .sums) x) _ (e .sq) (take e x .sq) _ (grown-one K x (m .sums) e) (grown-samples K I xs (sample K I m x) (take e x))
 
 grown-call : (m : Meter) (e : E) → Good m e → (call : Call)
-    → Grown (cond (accepts e call) (samplesOf call) []) (m .sums) (called m call .meter .sums) (e .sq) (fed e call .sq)
-unfolding fed
+    → Grown (cond (accepts e call) (samplesOf call) []) (m .state .sums) (called m call .meter .state .sums) (e .sq) (fed e call .sq)
+unfolding fed afterSamples
 grown-call m e g call =
-    subst (λ (n : Meter). Grown (cond (accepts e call) (samplesOf call) []) (m .sums) (n .sums) (e .sq) (fed e call .sq)) (sym (call-meter m e g call)) (go (accepts e call))
+    subst (λ (n : Meter). Grown (cond (accepts e call) (samplesOf call) []) (m .state .sums) (n .state .sums) (e .sq) (fed e call .sq)) (sym (call-meter m e g call)) (go (accepts e call))
   where
-    go : (t : Bool) → Grown (cond t (samplesOf call) []) (m .sums) (cond t (samples (kOf (m .setting)) (iOf (m .setting)) m (samplesOf call)) m .sums) (e .sq) (cond t (takeAll e (samplesOf call)) e .sq)
-    go true = grown-samples (kOf (m .setting)) (iOf (m .setting)) (samplesOf call) m e
-    go false = grown-none (m .sums) (e .sq)
+    go : (t : Bool) → Grown (cond t (samplesOf call) []) (m .state .sums) (cond t (afterSamples m (samplesOf call)) m .state .sums) (e .sq) (cond t (takeAll e (samplesOf call)) e .sq)
+    go true = grown-samples (kOf (m .setting)) (iOf (m .setting)) (samplesOf call) (m .state) e
+    go false = grown-none (m .state .sums) (e .sq)
 
-grown-after : (calls : List Call) (m : Meter) (e : E) → Typed calls → Good m e → Grown (took e calls) (m .sums) (after m calls .sums) (e .sq) (exactly e calls .sq)
+grown-after : (calls : List Call) (m : Meter) (e : E) → Typed calls → Good m e → Grown (took e calls) (m .state .sums) (after m calls .state .sums) (e .sq) (exactly e calls .sq)
 unfolding took after exactly
-grown-after [] m e f g = grown-none (m .sums) (e .sq)
+grown-after [] m e f g = grown-none (m .state .sums) (e .sq)
 grown-after (call ∷ calls) m e f g =
     let p = split call calls f in
-    grown-more (cond (accepts e call) (samplesOf call) []) (took (fed e call) calls) (m .sums) (called m call .meter .sums) _ (e .sq) (fed e call .sq) _
+    grown-more (cond (accepts e call) (samplesOf call) []) (took (fed e call) calls) (m .state .sums) (called m call .meter .state .sums) _ (e .sq) (fed e call .sq) _
     (grown-call m e g call) (grown-after calls (called m call .meter) (fed e call) (p .1) (good-call m e g call (p .0)))
 
 pub nothing-lost : (code : ℕ) (calls : List Call) → isNamed code ≡ true → Typed calls → NothingLost code calls
-unfolding fresh start startAt
+unfolding fresh freshState start startAt
 nothing-lost code calls n f =
     let g = good-fresh code n in
     let r = grown-after calls (fresh (record { code = code })) (start code) f g in

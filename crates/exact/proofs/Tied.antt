@@ -15,11 +15,10 @@ use lib.Pow.{pow-mono}
 use mir.Syntax.{w16}
 use mir.Val.{SFits}
 use Rattle.level.specs.Logarithm.{number}
-use Rattle.sample.specs.declared.Meter.{Meter}
-use Rattle.sample.specs.declared.Setting.{Setting}
+use Rattle.sample.specs.declared.State.{State}
 use Rattle.sample.specs.Activity.{counted, hung}
 use Rattle.sample.specs.Envelope.{smooth, rectified, threshold}
-use Rattle.sample.specs.Sample.{fifteen, words, iOf, fresh, summed, sample, samples}
+use Rattle.sample.specs.Sample.{fifteen, words, freshState, summed, sample, samples}
 use Rattle.sample.proofs.Activity.{Under, under-refl, under-step, counted-le, hung-le}
 use Rattle.sample.proofs.Envelope.{smooth-le}
 use Rattle.sample.proofs.Fifteen.{fifteen-at}
@@ -80,8 +79,7 @@ pub record Between (D j n a h : ℕ) (e : E) : Type 0 where
   pub few : a ≤ n
   pub held : h ≤ e .I
 
-pub record Tied (D : ℕ) (m : Meter) (e : E) : Type 0 where
-  pub code : m .setting .code ≡ e .code
+pub record Tied (D : ℕ) (m : State) (e : E) : Type 0 where
   pub taken : m .sums .n ≡ e .y
   pub power : number (m .sums .sq) ≡ e .sq
   pub p : Near (2 ^ 20) (e .K) 1 ((2 ^ 20) ^ (e .y)) (m .sums .p) (e .pn)
@@ -115,7 +113,7 @@ power-pos i = one-le-pow i (2 ^ 20) (lit≤ tt)
 power-next : (i : ℕ) → (2 ^ 20) ^ i * 2 ^ 20 ≡ (2 ^ 20) ^ (i + 1)
 power-next i = sym (ap (λ (k : ℕ). (2 ^ 20) ^ k) (add-one i) ∙ pow-suc (2 ^ 20) i)
 
-module _ (D : ℕ) (m : Meter) (e : E) (x : ℤ) (k0 : 0 < e .K) (kG : e .K ≤ 2 ^ 20) (wide : 2 ^ 21 ≤ D * e .K) (sx : natAbs x ≤ 2 ^ 15) (t : Tied D m e) where
+module _ (D : ℕ) (m : State) (e : E) (x : ℤ) (k0 : 0 < e .K) (kG : e .K ≤ 2 ^ 20) (wide : 2 ^ 21 ≤ D * e .K) (sx : natAbs x ≤ 2 ^ 15) (t : Tied D m e) where
   -- the envelope after the sample, of the meter and of E
   P : ℕ
   P = smooth (e .K) (m .sums .p) (rectified x)
@@ -178,7 +176,6 @@ module _ (D : ℕ) (m : Meter) (e : E) (x : ℤ) (k0 : 0 < e .K) (kG : e .K ≤ 
   unfolding sample summed take P Q W pn qn
   tied-step =
       record {
-        code = t .code;
         taken = ap (λ (i : ℕ). i + 1) (t .taken);
         power = number-words (number (m .sums .sq) + natAbs x * natAbs x) ∙ ap (λ (s : ℕ). s + natAbs x * natAbs x) (t .power);
         p = p-near;
@@ -200,7 +197,7 @@ module _ (D : ℕ) (m : Meter) (e : E) (x : ℤ) (k0 : 0 < e .K) (kG : e .K ≤ 
       hangs j = hung (e .I) (leb (threshold j) Q) (getD (m .h) j 0)
 
 -- samples in order
-pub tied-samples : (D : ℕ) (xs : List ℤ) (m : Meter) (e : E) → 0 < e .K → e .K ≤ 2 ^ 20 → 2 ^ 21 ≤ D * e .K → AllSamples xs → Tied D m e
+pub tied-samples : (D : ℕ) (xs : List ℤ) (m : State) (e : E) → 0 < e .K → e .K ≤ 2 ^ 20 → 2 ^ 21 ≤ D * e .K → AllSamples xs → Tied D m e
     → Tied D (samples (e .K) (e .I) m xs) (takeAll e xs)
 unfolding samples takeAll AllSamples take
 tied-samples D [] m e k0 kG wide f t = t
@@ -208,22 +205,21 @@ tied-samples D (x ∷ xs) m e k0 kG wide f t =
     tied-samples D xs (sample (e .K) (e .I) m x) (take e x) k0 kG wide (f .1) (tied-step D m e x k0 kG wide (small x (f .0)) t)
 
 -- a fresh start
-pub tied-fresh : (D : ℕ) (c : Setting) (K : ℕ) → Tied D (fresh c) (startAt (c .code) K (iOf c))
-unfolding fresh startAt
-tied-fresh D c K =
+pub tied-fresh : (D code K I : ℕ) → Tied D (freshState I) (startAt code K I)
+unfolding freshState startAt
+tied-fresh D code K I =
     record {
-      code = refl;
       taken = refl;
       power = number-words 0;
       p = near-zero (2 ^ 20) K 1 ((2 ^ 20) ^ 0) (lit< tt) (power-pos 0) (lit< tt);
       q = near-zero (2 ^ 20) K 2 ((2 ^ 20) ^ (0 + 1)) (lit< tt) (power-pos 1) (lit< tt);
       each = λ j l. record {
-        low = omega (arith, fifteen-at (λ i. 0) j l, fifteen-at (λ i. iOf c) j l);
-        high = omega (arith, fifteen-at (λ i. 0) j l, fifteen-at (λ i. iOf c) j l);
+        low = omega (arith, fifteen-at (λ i. 0) j l, fifteen-at (λ i. I) j l);
+        high = omega (arith, fifteen-at (λ i. 0) j l, fifteen-at (λ i. I) j l);
         few = omega (arith, fifteen-at (λ i. 0) j l);
-        held = omega (arith, fifteen-at (λ i. iOf c) j l);
+        held = omega (arith, fifteen-at (λ i. I) j l);
       };
-      falls = λ j l. both-at (λ i. 0) (λ i. iOf c) (j + 1) j l (omega arith) (under-refl 0 (iOf c));
+      falls = λ j l. both-at (λ i. 0) (λ i. I) (j + 1) j l (omega arith) (under-refl 0 I);
       sum = zero-le;
       squares = le-of-eq (number-words 0);
       p-max = zero-le;
@@ -232,14 +228,16 @@ tied-fresh D c K =
 
 -- ---- the envelope alone
 
-pub envelope-bound : (c : Setting) (K D : ℕ) (xs : List ℤ) → 1 ≤ K → K ≤ 2 ^ 20 → Ceiling (2 ^ 21) K D → AllSamples xs → EnvelopeBound c K D xs
+pub envelope-bound : (K I D : ℕ) (xs : List ℤ) → 1 ≤ K → K ≤ 2 ^ 20 → Ceiling (2 ^ 21) K D → AllSamples xs → EnvelopeBound K I D xs
 unfolding startAt
-envelope-bound c K D xs k0 kG d f =
-    let e = startAt (c .code) K (iOf c) in
-    let t = tied-samples D xs (fresh c) e k0 kG (d .not-below) f (tied-fresh D c K) in
-    let near = subst (λ (i : ℕ). Near (2 ^ 20) K 2 ((2 ^ 20) ^ (i + 1)) (envelopeAfter c K xs) (exactEnvelopeAfter c K xs)) (total xs e ∙ zero-add (length xs))
-    (subst (λ (k : ℕ). Near (2 ^ 20) k 2 ((2 ^ 20) ^ (takeAll e xs .y + 1)) (envelopeAfter c K xs) (exactEnvelopeAfter c K xs)) (same-K xs e) (t .q)) in
+envelope-bound K I D xs k0 kG d f =
+    let e = startAt 0 K I in
+    let t = tied-samples D xs (freshState I) e k0 kG (d .not-below) f (tied-fresh D 0 K I) in
+    let Q = envelopeAfter K I xs in
+    let qn = exactEnvelopeAfter K I xs in
+    let near = subst (λ (i : ℕ). Near (2 ^ 20) K 2 ((2 ^ 20) ^ (i + 1)) Q qn) (total xs e ∙ zero-add (length xs))
+    (subst (λ (k : ℕ). Near (2 ^ 20) k 2 ((2 ^ 20) ^ (takeAll e xs .y + 1)) Q qn) (same-K xs e) (t .q)) in
     record {
       never-above = near .low;
-      less-than-D = near-below (2 ^ 20) K 2 ((2 ^ 20) ^ (length xs + 1)) _ _ D (d .not-below) near;
+      less-than-D = near-below (2 ^ 20) K 2 ((2 ^ 20) ^ (length xs + 1)) Q qn D (d .not-below) near;
     }

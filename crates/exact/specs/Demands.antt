@@ -8,27 +8,26 @@ use lib.IntN.{ℤ, pos, natAbs, _+ℤ_}
 use lib.ListN.{length, getD}
 use Rattle.level.specs.Logarithm.{number}
 use Rattle.rate.specs.Rates.{rowOf}
-use Rattle.sample.specs.declared.Meter.{Meter}
-use Rattle.sample.specs.declared.Setting.{Setting}
 use Rattle.sample.specs.Envelope.{threshold}
-use Rattle.sample.specs.Sample.{iOf, fresh, samples}
+use Rattle.sample.specs.Sample.{freshState, samples}
+use Rattle.meter.specs.declared.Meter.{Meter}
 use Rattle.meter.specs.declared.Report.{Report}
-use Rattle.meter.specs.Calls.{reportCall}
+use Rattle.meter.specs.Calls.{fresh, reportCall}
 use Rattle.meter.specs.Refusals.{impossible}
 use Rattle.exact.specs.Exact.{E, startAt, start, takeAll, exactly, acceptedByE, took}
 use Rattle.exact.specs.Lists.{Call, after, accepted}
 
--- Q, and the numerator of E's q, after samples from a fresh start with any K
-abbrev pub envelopeAfter : Setting → (K : ℕ) → List ℤ → ℕ
-envelopeAfter c K xs = samples K (iOf c) (fresh c) xs .sums .q
+-- Q, and the numerator of E's q, after samples from a fresh start with any K and I
+abbrev pub envelopeAfter : (K I : ℕ) → List ℤ → ℕ
+envelopeAfter K I xs = samples K I (freshState I) xs .sums .q
 
-abbrev pub exactEnvelopeAfter : Setting → (K : ℕ) → List ℤ → ℕ
-exactEnvelopeAfter c K xs = takeAll (startAt (c .code) K (iOf c)) xs .qn
+abbrev pub exactEnvelopeAfter : (K I : ℕ) → List ℤ → ℕ
+exactEnvelopeAfter K I xs = takeAll (startAt 0 K I) xs .qn
 
 -- the envelope: Q is never above E's q, and less than D below it
-pub record EnvelopeBound (c : Setting) (K D : ℕ) (xs : List ℤ) : Type 0 where
-  pub never-above : envelopeAfter c K xs * (2 ^ 20) ^ (length xs + 1) ≤ exactEnvelopeAfter c K xs
-  pub less-than-D : exactEnvelopeAfter c K xs < (envelopeAfter c K xs + D) * (2 ^ 20) ^ (length xs + 1)
+pub record EnvelopeBound (K I D : ℕ) (xs : List ℤ) : Type 0 where
+  pub never-above : envelopeAfter K I xs * (2 ^ 20) ^ (length xs + 1) ≤ exactEnvelopeAfter K I xs
+  pub less-than-D : exactEnvelopeAfter K I xs < (envelopeAfter K I xs + D) * (2 ^ 20) ^ (length xs + 1)
 
 -- the meter and E after a list of calls
 abbrev pub meterAfter : ℕ → List Call → Meter
@@ -55,11 +54,11 @@ pub record Demand3 (code : ℕ) (calls : List Call) : Type 0 where
   -- the meter accepts exactly the calls that E accepts
   pub same-calls : accepted (fresh (record { code = code })) calls ≡ acceptedByE (start code) calls
   -- each activity count is at most E's count at that threshold
-  pub at-most : (j : ℕ) → j < 15 → getD (meterAfter code calls .a) j 0 ≤ countAt (exactAfter code calls) (threshold j)
+  pub at-most : (j : ℕ) → j < 15 → getD (meterAfter code calls .state .a) j 0 ≤ countAt (exactAfter code calls) (threshold j)
   -- and at least E's count at the threshold raised by D
-  pub at-least : (j : ℕ) → j < 15 → countAt (exactAfter code calls) (threshold j + rowOf code .d) ≤ getD (meterAfter code calls .a) j 0
+  pub at-least : (j : ℕ) → j < 15 → countAt (exactAfter code calls) (threshold j + rowOf code .d) ≤ getD (meterAfter code calls .state .a) j 0
   -- no count rises with the threshold
-  pub never-rises : (i j : ℕ) → i ≤ j → j < 15 → getD (meterAfter code calls .a) j 0 ≤ getD (meterAfter code calls .a) i 0
+  pub never-rises : (i j : ℕ) → i ≤ j → j < 15 → getD (meterAfter code calls .state .a) j 0 ≤ getD (meterAfter code calls .state .a) i 0
   -- a report on that meter gives levels or one of 12 to 16, and never 2
   pub level-or-refusal :
       (reportCall (meterAfter code calls) .number ≡ 0)
@@ -80,8 +79,8 @@ sumOfSquares (x ∷ xs) = natAbs x * natAbs x + sumOfSquares xs
 
 -- nothing is lost and nothing wraps: n, s and sq are those of the samples of the accepted calls, and refusal 2 does not apply
 pub record NothingLost (code : ℕ) (calls : List Call) : Type 0 where
-  pub total : meterAfter code calls .sums .n ≡ length (took (start code) calls)
-  pub sums : meterAfter code calls .sums .s ≡ sum (took (start code) calls)
-  pub squares : number (meterAfter code calls .sums .sq) ≡ sumOfSquares (took (start code) calls)
+  pub total : meterAfter code calls .state .sums .n ≡ length (took (start code) calls)
+  pub sums : meterAfter code calls .state .sums .s ≡ sum (took (start code) calls)
+  pub squares : number (meterAfter code calls .state .sums .sq) ≡ sumOfSquares (took (start code) calls)
   pub exact-squares : exactAfter code calls .sq ≡ sumOfSquares (took (start code) calls)
   pub possible : impossible (meterAfter code calls) ≡ false

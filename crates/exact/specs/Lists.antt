@@ -6,7 +6,7 @@ use lib.Dec.{eqb}
 use lib.IntN.{ℤ}
 use mir.Syntax.{w16}
 use mir.Val.{SFits}
-use Rattle.sample.specs.declared.Meter.{Meter}
+use Rattle.meter.specs.declared.Meter.{Meter}
 use Rattle.meter.specs.Calls.{Handed, chunkCall, blockCall}
 
 -- a call's arguments other than the meter

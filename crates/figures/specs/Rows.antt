@@ -6,12 +6,11 @@ use Prim.Native.Nat.{ℕ, _+_, _*_, _^_, _≤_}
 use lib.IntN.{ℤ, pos}
 use lib.ListN.{replicate}
 use Rattle.level.specs.Logarithm.{levelOf}
-use Rattle.sample.specs.declared.Meter.{Meter}
-use Rattle.sample.specs.declared.Setting.{Setting}
 use Rattle.sample.specs.Envelope.{threshold}
-use Rattle.sample.specs.Sample.{words, kOf, iOf, fresh, samples}
+use Rattle.sample.specs.Sample.{words}
+use Rattle.meter.specs.declared.Meter.{Meter}
 use Rattle.meter.specs.declared.Report.{Report}
-use Rattle.meter.specs.Calls.{reportCall}
+use Rattle.meter.specs.Calls.{fresh, afterSamples, reportCall}
 use Rattle.exact.specs.Demands.{meterAfter, exactAfter, countAt}
 use Rattle.exact.specs.Lists.{Call}
 
@@ -57,13 +56,11 @@ unfoldable pub given : (n sq : ℕ) → List ℕ → Meter
 given n sq a =
     record {
       setting = record { code = 2 };
-      sums = record { n = n; s = pos 0; sq = words sq; p = 0; q = 0 };
-      a = a;
-      h = replicate 15 0;
+      state = record { sums = record { n = n; s = pos 0; sq = words sq; p = 0; q = 0 }; a = a; h = replicate 15 0 };
     }
 
 unfoldable pub sampledMeter : ℕ → List ℤ → Meter
-sampledMeter code xs = let c : Setting = record { code = code } in samples (kOf c) (iOf c) (fresh c) xs
+sampledMeter code xs = afterSamples (fresh (record { code = code })) xs
 
 unfoldable pub levelsOf : Report → Levels
 levelsOf r =
@@ -79,21 +76,21 @@ levelsOf r =
 unfoldable pub valuesOf : Meter → Values
 valuesOf m =
     record {
-      n = m .sums .n;
-      s = m .sums .s;
-      high = m .sums .sq .high;
-      low = m .sums .sq .low;
-      P = m .sums .p;
-      Q = m .sums .q;
-      a = m .a;
-      h = m .h;
+      n = m .state .sums .n;
+      s = m .state .sums .s;
+      high = m .state .sums .sq .high;
+      low = m .state .sums .sq .low;
+      P = m .state .sums .p;
+      Q = m .state .sums .q;
+      a = m .state .a;
+      h = m .state .h;
     }
 
 unfoldable pub Holds : Row → Type 0
 Holds (level N v) = levelOf N ≡ some (pos v)
 Holds (sampled code xs P Q a number) =
     let m = sampledMeter code xs in
-    (m .sums .p ≡ P) × (m .sums .q ≡ Q) × (m .a ≡ a) × (reportCall m .number ≡ number)
+    (m .state .sums .p ≡ P) × (m .state .sums .q ≡ Q) × (m .state .a ≡ a) × (reportCall m .number ≡ number)
 Holds (reported n sq a r) = (reportCall (given n sq a) .number ≡ 0) × (levelsOf (reportCall (given n sq a) .report) ≡ r)
 Holds (refused n sq a number) = reportCall (given n sq a) .number ≡ number
 Holds (played code calls v) = valuesOf (meterAfter code calls) ≡ v

@@ -17,8 +17,8 @@ use Rattle.rate.proofs.Laws.{zero-unnamed}
 use Rattle.refusal.specs.First.{Rule, firstOf, applies, rising}
 use Rattle.refusal.proofs.Laws.{here, lowest, only-where}
 use Rattle.block.specs.Refusals.{blockRules}
-use Rattle.sample.specs.declared.Meter.{Meter}
-use Rattle.sample.specs.declared.Setting.{Setting}
+use Rattle.meter.specs.declared.Meter.{Meter}
+use Rattle.meter.specs.declared.Setting.{Setting}
 use Rattle.crossing.proofs.Bounds.{alive, Crossed, crossed, factor}
 use Rattle.meter.specs.declared.Report.{Report}
 use Rattle.meter.specs.Refusals.{unnamedCode, unnamedSetting, impossible, openRules, chunkRules, blockCallRules}
@@ -125,23 +125,23 @@ module _ (m : Meter) (z : reportCall m .number ≡ 0) where
   unfolding reportAt
   upper-is = ap (λ (r : Report). r .upper) (L .report)
 
-  count-exists : (i : ℕ) → i ≤ L .j → (1 ≤ getD (m .a) i 0) × (getD (m .a) i 0 ≤ 2 ^ 80)
+  count-exists : (i : ℕ) → i ≤ L .j → (1 ≤ getD (m .state .a) i 0) × (getD (m .state .a) i 0 ≤ 2 ^ 80)
   count-exists i h =
       let p = L .possible in (
-        le-trans (alive margin _ (m .a) (L .j) (L .crosses)) (falling m p i (L .j) h (L .below)),
+        le-trans (alive margin _ (m .state .a) (L .j) (L .crosses)) (falling m p i (L .j) h (L .below)),
         omega (arith, p .a-max i (lt-of-le-of-lt h (L .below)), p .n-max),
       )
 
   -- the numbers whose levels it takes, sq, n and each a_i up to the upper threshold, all have one
-  pub level-exists : (1 ≤ number (m .sums .sq)) × (number (m .sums .sq) ≤ 2 ^ 80) × (1 ≤ m .sums .n) × (m .sums .n ≤ 2 ^ 80)
-      × ((i : ℕ) → i ≤ reportCall m .report .upper → (1 ≤ getD (m .a) i 0) × (getD (m .a) i 0 ≤ 2 ^ 80))
+  pub level-exists : (1 ≤ number (m .state .sums .sq)) × (number (m .state .sums .sq) ≤ 2 ^ 80) × (1 ≤ m .state .sums .n) × (m .state .sums .n ≤ 2 ^ 80)
+      × ((i : ℕ) → i ≤ reportCall m .report .upper → (1 ≤ getD (m .state .a) i 0) × (getD (m .state .a) i 0 ≤ 2 ^ 80))
   level-exists =
       let p = L .possible in
       (L .sq-pos, omega (arith, p .sq-max, p .n-max), L .n-pos, omega (arith, p .n-max), λ i h. count-exists i (subst (λ (j : ℕ). i ≤ j) upper-is h))
 
-  cross : Crossed margin (number (m .sums .sq)) (m .a) (L .j)
+  cross : Crossed margin (number (m .state .sums .sq)) (m .state .a) (L .j)
   cross =
-      crossed margin _ (m .a) (L .j) (L .crosses)
+      crossed margin _ (m .state .a) (L .j) (L .crosses)
       (λ h. falling m (L .possible) (L .j - 1) (L .j) (omega arith) (L .below)) (count-exists (L .j - 1) (omega arith) .1)
 
   -- F is never above 0
@@ -149,4 +149,4 @@ module _ (m : Meter) (z : reportCall m .number ≡ 0) where
   unfolding reportAt
   factor-never-above =
       ap (λ (r : Report). ltZ (pos 0) (r .factor .0)) (L .report)
-      ∙ factor margin _ (m .sums .n) (m .a) (L .j) cross (L .possible .a-max (cross .i) (lt-of-le-of-lt (cross .reach) (L .below))) (level-exists .3)
+      ∙ factor margin _ (m .state .sums .n) (m .state .a) (L .j) cross (L .possible .a-max (cross .i) (lt-of-le-of-lt (cross .reach) (L .below))) (level-exists .3)

@@ -11,21 +11,21 @@ use lib.IntN.{natAbs}
 use lib.ListN.{getD}
 use Rattle.level.specs.Logarithm.{number}
 use Rattle.rate.specs.Rates.{isNamed}
-use Rattle.sample.specs.declared.Meter.{Meter}
-use Rattle.sample.specs.Sample.{iOf}
+use Rattle.meter.specs.declared.Meter.{Meter}
+use Rattle.meter.specs.Settings.{iOf}
 use Rattle.meter.specs.Refusals.{someBelow, unnamedCode, unnamedSetting, manySamples, largeSum, largeSquares, largeEnvelope, longHangover, largeCount, risingCounts, fallingHangovers, impossible}
 
 pub record Possible (m : Meter) : Type 0 where
   pub named : isNamed (m .setting .code) ≡ true
-  pub n-max : m .sums .n ≤ 2 ^ 48
-  pub s-max : natAbs (m .sums .s) ≤ m .sums .n * 2 ^ 15
-  pub sq-max : number (m .sums .sq) ≤ m .sums .n * 2 ^ 30
-  pub p-max : m .sums .p ≤ 2 ^ 39
-  pub q-max : m .sums .q ≤ 2 ^ 39
-  pub h-max : (j : ℕ) → j < 15 → getD (m .h) j 0 ≤ iOf (m .setting)
-  pub a-max : (j : ℕ) → j < 15 → getD (m .a) j 0 ≤ m .sums .n
-  pub a-falls : (j : ℕ) → j < 14 → getD (m .a) (j + 1) 0 ≤ getD (m .a) j 0
-  pub h-rises : (j : ℕ) → j < 14 → getD (m .h) j 0 ≤ getD (m .h) (j + 1) 0
+  pub n-max : m .state .sums .n ≤ 2 ^ 48
+  pub s-max : natAbs (m .state .sums .s) ≤ m .state .sums .n * 2 ^ 15
+  pub sq-max : number (m .state .sums .sq) ≤ m .state .sums .n * 2 ^ 30
+  pub p-max : m .state .sums .p ≤ 2 ^ 39
+  pub q-max : m .state .sums .q ≤ 2 ^ 39
+  pub h-max : (j : ℕ) → j < 15 → getD (m .state .h) j 0 ≤ iOf (m .setting)
+  pub a-max : (j : ℕ) → j < 15 → getD (m .state .a) j 0 ≤ m .state .sums .n
+  pub a-falls : (j : ℕ) → j < 14 → getD (m .state .a) (j + 1) 0 ≤ getD (m .state .a) j 0
+  pub h-rises : (j : ℕ) → j < 14 → getD (m .state .h) j 0 ≤ getD (m .state .h) (j + 1) 0
 
 -- ---- some place below k, and none
 
@@ -123,7 +123,7 @@ fall f n h i (suc k) l =
     let s : i + suc k ≡ i + k + 1 = omega arith in
     subst (λ (x : ℕ). f x ≤ f i) (sym s) (le-trans (h (i + k) (omega arith)) (fall f n h i k (omega arith)))
 
-pub falling : (m : Meter) → Possible m → (i j : ℕ) → i ≤ j → j < 15 → getD (m .a) j 0 ≤ getD (m .a) i 0
+pub falling : (m : Meter) → Possible m → (i j : ℕ) → i ≤ j → j < 15 → getD (m .state .a) j 0 ≤ getD (m .state .a) i 0
 falling m p i j h l =
     let s : i + (j - i) ≡ j = omega arith in
-    subst (λ (x : ℕ). getD (m .a) x 0 ≤ getD (m .a) i 0) s (fall (λ x. getD (m .a) x 0) 14 (p .a-falls) i (j - i) (omega arith))
+    subst (λ (x : ℕ). getD (m .state .a) x 0 ≤ getD (m .state .a) i 0) s (fall (λ x. getD (m .state .a) x 0) 14 (p .a-falls) i (j - i) (omega arith))

@@ -14,7 +14,7 @@ use lib.Signed.{ltZ}
 use Rattle.level.specs.Logarithm.{number}
 use Rattle.refusal.specs.First.{firstOf}
 use Rattle.refusal.proofs.Laws.{cleared}
-use Rattle.sample.specs.declared.Meter.{Meter}
+use Rattle.meter.specs.declared.Meter.{Meter}
 use Rattle.crossing.specs.Levels.{excess}
 use Rattle.crossing.specs.Crossing.{isZero, isCrossing, crossing}
 use Rattle.crossing.proofs.Search.{Found, found, not-found}
@@ -46,11 +46,11 @@ level-or-refusal m i = answer (impossible m) (noSamples m) (noSignal m) (noActiv
 -- what holds of a meter whose report gives levels
 pub record Levels (m : Meter) : Type 0 where
   pub possible : Possible m
-  pub n-pos : 0 < m .sums .n
-  pub sq-pos : 0 < number (m .sums .sq)
+  pub n-pos : 0 < m .state .sums .n
+  pub sq-pos : 0 < number (m .state .sums .sq)
   pub j : ℕ
   pub below : j < 15
-  pub crosses : isCrossing margin (number (m .sums .sq)) (m .a) j ≡ true
+  pub crosses : isCrossing margin (number (m .state .sums .sq)) (m .state .a) j ≡ true
   pub report : reportCall m .report ≡ reportAt m j
 
 -- with a_0 above 0 and d_0 neither below nor above 0, there is a crossing at 0
@@ -88,8 +88,8 @@ module _ (m : Meter) (z : reportCall m .number ≡ 0) where
       let d = firstExcess m in
       let below : ltZ d (pos 0) ≡ false = sym (ap (λ (o : Option ℕ). isNone o && ltZ d (pos 0)) e) ∙ passed .4 in
       let above : ltZ (pos 0) d ≡ false = sym (ap (λ (o : Option ℕ). isNone o && ltZ (pos 0) d) e) ∙ passed .5 in
-      let yes = first-crosses margin (number (m .sums .sq)) (m .a) (positive _ (passed .3)) (signs d below above) in
-      let no = not-found (isCrossing margin (number (m .sums .sq)) (m .a)) 0 15 e 0 (omega arith) (omega arith) in
+      let yes = first-crosses margin (number (m .state .sums .sq)) (m .state .a) (positive _ (passed .3)) (signs d below above) in
+      let no = not-found (isCrossing margin (number (m .state .sums .sq)) (m .state .a)) 0 15 e 0 (omega arith) (omega arith) in
       absurd (subst T (sym yes ∙ no) tt)
 
   report-is : (j : ℕ) → crossingOf m ≡ some j → reportCall m .report ≡ reportAt m j
@@ -101,7 +101,7 @@ module _ (m : Meter) (z : reportCall m .number ≡ 0) where
   unfolding noSamples noSignal crossingOf crossing
   levels =
       let c = crossing-found (crossingOf m) refl in
-      let f = found (isCrossing margin (number (m .sums .sq)) (m .a)) 0 15 (c .0) (c .1) in
+      let f = found (isCrossing margin (number (m .state .sums .sq)) (m .state .a)) 0 15 (c .0) (c .1) in
       record {
         possible = possible m (passed .0);
         n-pos = positive _ (passed .1);

@@ -3,12 +3,13 @@ use mathlib.Core.Bool.{Bool, cond}
 use mathlib.Core.List.{List}
 use Prim.Native.Nat.{ℕ}
 use lib.Dec.{eqb}
-use lib.IntN.{ℤ, pos}
+use lib.IntN.{ℤ}
 use Rattle.refusal.specs.First.{firstOf}
 use Rattle.block.specs.Block.{samples as samplesIn}
-use Rattle.sample.specs.declared.Meter.{Meter}
-use Rattle.sample.specs.declared.Setting.{Setting}
-use Rattle.sample.specs.Sample.{fifteen, words, kOf, iOf, fresh, samples}
+use Rattle.meter.specs.declared.Meter.{Meter}
+use Rattle.meter.specs.declared.Setting.{Setting}
+use Rattle.sample.specs.Sample.{freshState, samples}
+use Rattle.meter.specs.Settings.{kOf, iOf}
 use Rattle.meter.specs.declared.Report.{Report}
 use Rattle.meter.specs.Refusals.{openRules, chunkRules, blockCallRules}
 use Rattle.meter.specs.Reports.{reportRules, crossingOf, noReport, reportFor}
@@ -24,15 +25,17 @@ pub record HandedReport : Type 0 where
   pub meter : Meter
   pub report : Report
 
+-- the fresh meter: that setting, each h_j = I, all else zero
+unfoldable pub fresh : Setting → Meter
+fresh c = record { setting = c; state = freshState (iOf c) }
+
 -- the meter of all zeros, beside a refused opening
 unfoldable pub zeroMeter : Meter
-zeroMeter =
-    record {
-      setting = record { code = 0 };
-      sums = record { n = 0; s = pos 0; sq = words 0; p = 0; q = 0 };
-      a = fifteen (λ j. 0);
-      h = fifteen (λ j. 0);
-    }
+zeroMeter = record { setting = record { code = 0 }; state = freshState 0 }
+
+-- the meter after samples in order
+unfoldable pub afterSamples : Meter → List ℤ → Meter
+afterSamples m xs = record { setting = m .setting; state = samples (kOf (m .setting)) (iOf (m .setting)) (m .state) xs }
 
 -- a call that is accepted where the number is 0 hands back the first meter, else the second
 abbrev handed : ℕ → Meter → Meter → Handed
@@ -42,10 +45,10 @@ unfoldable pub openCall : Setting → Handed
 openCall c = handed (firstOf (openRules (c .code))) (fresh c) zeroMeter
 
 unfoldable pub chunkCall : Meter → List ℤ → Handed
-chunkCall m xs = handed (firstOf (chunkRules m xs)) (samples (kOf (m .setting)) (iOf (m .setting)) m xs) m
+chunkCall m xs = handed (firstOf (chunkRules m xs)) (afterSamples m xs) m
 
 unfoldable pub blockCall : Meter → List ℕ → Handed
-blockCall m b = handed (firstOf (blockCallRules m b)) (samples (kOf (m .setting)) (iOf (m .setting)) m (samplesIn b)) m
+blockCall m b = handed (firstOf (blockCallRules m b)) (afterSamples m (samplesIn b)) m
 
 unfoldable pub reportCall : Meter → HandedReport
 reportCall m =

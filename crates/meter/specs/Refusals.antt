@@ -10,8 +10,8 @@ use Rattle.rate.specs.Rates.{isNamed}
 use Rattle.refusal.specs.First.{Rule}
 use Rattle.block.specs.Block.{count, before}
 use Rattle.block.specs.Refusals.{blockRules}
-use Rattle.sample.specs.declared.Meter.{Meter}
-use Rattle.sample.specs.Sample.{iOf}
+use Rattle.meter.specs.declared.Meter.{Meter}
+use Rattle.meter.specs.Settings.{iOf}
 
 -- whether f holds at some j below k
 unfoldable pub someBelow : ℕ → (ℕ → Bool) → Bool
@@ -28,35 +28,35 @@ unnamedSetting m = unnamedCode (m .setting .code)
 
 -- n > 2^48
 unfoldable pub manySamples : Meter → Bool
-manySamples m = ltb (2 ^ 48) (m .sums .n)
+manySamples m = ltb (2 ^ 48) (m .state .sums .n)
 
 -- |s| > n·2^15
 unfoldable pub largeSum : Meter → Bool
-largeSum m = ltb (m .sums .n * 2 ^ 15) (natAbs (m .sums .s))
+largeSum m = ltb (m .state .sums .n * 2 ^ 15) (natAbs (m .state .sums .s))
 
 -- sq > n·2^30
 unfoldable pub largeSquares : Meter → Bool
-largeSquares m = ltb (m .sums .n * 2 ^ 30) (number (m .sums .sq))
+largeSquares m = ltb (m .state .sums .n * 2 ^ 30) (number (m .state .sums .sq))
 
 -- P or Q > 2^39
 unfoldable pub largeEnvelope : Meter → Bool
-largeEnvelope m = ltb (2 ^ 39) (m .sums .p) || ltb (2 ^ 39) (m .sums .q)
+largeEnvelope m = ltb (2 ^ 39) (m .state .sums .p) || ltb (2 ^ 39) (m .state .sums .q)
 
 -- an h_j > I
 unfoldable pub longHangover : Meter → Bool
-longHangover m = someBelow 15 (λ j. ltb (iOf (m .setting)) (getD (m .h) j 0))
+longHangover m = someBelow 15 (λ j. ltb (iOf (m .setting)) (getD (m .state .h) j 0))
 
 -- an a_j > n
 unfoldable pub largeCount : Meter → Bool
-largeCount m = someBelow 15 (λ j. ltb (m .sums .n) (getD (m .a) j 0))
+largeCount m = someBelow 15 (λ j. ltb (m .state .sums .n) (getD (m .state .a) j 0))
 
 -- a_j rising with j
 unfoldable pub risingCounts : Meter → Bool
-risingCounts m = someBelow 14 (λ j. ltb (getD (m .a) j 0) (getD (m .a) (j + 1) 0))
+risingCounts m = someBelow 14 (λ j. ltb (getD (m .state .a) j 0) (getD (m .state .a) (j + 1) 0))
 
 -- h_j falling with j
 unfoldable pub fallingHangovers : Meter → Bool
-fallingHangovers m = someBelow 14 (λ j. ltb (getD (m .h) (j + 1) 0) (getD (m .h) j 0))
+fallingHangovers m = someBelow 14 (λ j. ltb (getD (m .state .h) (j + 1) 0) (getD (m .state .h) j 0))
 
 -- 2: a meter no measurement could hold
 unfoldable pub impossible : Meter → Bool
@@ -77,11 +77,11 @@ longChunk xs = ltb 4096 (length xs)
 
 -- 10: the samples before a block are not n
 unfoldable pub wrongPlace : Meter → List ℕ → Bool
-wrongPlace m b = not (eqb (before b) (m .sums .n))
+wrongPlace m b = not (eqb (before b) (m .state .sums .n))
 
 -- 11: n and the new samples together above 2^48
 unfoldable pub tooMany : Meter → ℕ → Bool
-tooMany m new = ltb (2 ^ 48) (m .sums .n + new)
+tooMany m new = ltb (2 ^ 48) (m .state .sums .n + new)
 
 unfoldable pub openRules : ℕ → List Rule
 openRules code = (1, unnamedCode code) ∷ []

@@ -11,7 +11,7 @@ use Rattle.level.specs.Logarithm.{number}
 use Rattle.level.specs.declared.Samples.{Samples}
 use Rattle.level.specs.declared.Steps.{Steps}
 use Rattle.refusal.specs.First.{Rule, firstOf}
-use Rattle.sample.specs.declared.Meter.{Meter}
+use Rattle.meter.specs.declared.Meter.{Meter}
 use Rattle.sample.specs.Sample.{fifteen, words}
 use Rattle.crossing.specs.Levels.{longTerm, excess}
 use Rattle.crossing.specs.Crossing.{crossing, lowerOf, upperOf, activeLevel}
@@ -34,22 +34,22 @@ isNone (some j) = false
 
 -- the crossing of a meter, and d_0
 unfoldable pub crossingOf : Meter → Option ℕ
-crossingOf m = crossing margin (number (m .sums .sq)) (m .a)
+crossingOf m = crossing margin (number (m .state .sums .sq)) (m .state .a)
 
 unfoldable pub firstExcess : Meter → ℤ
-firstExcess m = excess margin (number (m .sums .sq)) (m .a) 0
+firstExcess m = excess margin (number (m .state .sums .sq)) (m .state .a) 0
 
 -- 12: n = 0
 unfoldable pub noSamples : Meter → Bool
-noSamples m = eqb (m .sums .n) 0
+noSamples m = eqb (m .state .sums .n) 0
 
 -- 13: sq = 0
 unfoldable pub noSignal : Meter → Bool
-noSignal m = eqb (number (m .sums .sq)) 0
+noSignal m = eqb (number (m .state .sums .sq)) 0
 
 -- 14: a_0 = 0
 unfoldable pub noActivity : Meter → Bool
-noActivity m = eqb (getD (m .a) 0 0) 0
+noActivity m = eqb (getD (m .state .a) 0 0) 0
 
 -- 15: no crossing and d_0 < 0
 unfoldable pub levelBelow : Meter → Bool
@@ -88,19 +88,19 @@ noReport =
 -- the report at a crossing j: C = A − M, F = L − A
 unfoldable pub reportAt : Meter → ℕ → Report
 reportAt m j =
-    let sq = number (m .sums .sq) in
-    let L = longTerm sq (m .sums .n) in
-    let A = activeLevel margin sq (m .a) j in
+    let sq = number (m .state .sums .sq) in
+    let L = longTerm sq (m .state .sums .n) in
+    let A = activeLevel margin sq (m .state .a) j in
     record {
-      n = samplesOf (m .sums .n);
-      s = m .sums .s;
-      sq = m .sums .sq;
-      a = map samplesOf (m .a);
+      n = samplesOf (m .state .sums .n);
+      s = m .state .sums .s;
+      sq = m .state .sums .sq;
+      a = map samplesOf (m .state .a);
       level = steps L;
       active = steps A;
       threshold = steps (A -ℤ pos margin);
       factor = steps (L -ℤ A);
-      lower = lowerOf margin sq (m .a) j;
+      lower = lowerOf margin sq (m .state .a) j;
       upper = upperOf j;
     }
 

@@ -1,4 +1,4 @@
--- A sample on a meter, and samples in order: document 01, "One sample".
+-- A sample, and samples in order: document 01, "One sample".
 use mathlib.Core.List.{List, [], _∷_}
 use Prim.Native.Nat.{ℕ, zero, suc, _+_, _*_, _/_, _%_, _^_}
 use lib.Dec.{leb}
@@ -6,10 +6,8 @@ use lib.IntN.{ℤ, pos, natAbs, _+ℤ_}
 use lib.ListN.{getD}
 use Rattle.level.specs.Logarithm.{number}
 use Rattle.level.specs.declared.Squares.{Squares}
-use Rattle.rate.specs.Rates.{rowOf}
-use Rattle.sample.specs.declared.Setting.{Setting}
 use Rattle.sample.specs.declared.Sums.{Sums}
-use Rattle.sample.specs.declared.Meter.{Meter}
+use Rattle.sample.specs.declared.State.{State}
 use Rattle.sample.specs.Activity.{counted, hung}
 use Rattle.sample.specs.Envelope.{smooth, rectified, threshold}
 
@@ -26,21 +24,13 @@ fifteen f = listFrom f 0 15
 unfoldable pub words : ℕ → Squares
 words N = record { high = N / 2 ^ 64; low = N % 2 ^ 64 }
 
--- K and I of a setting
-unfoldable pub kOf : Setting → ℕ
-kOf c = rowOf (c .code) .k
-
-unfoldable pub iOf : Setting → ℕ
-iOf c = rowOf (c .code) .i
-
--- the fresh meter: that setting, each h_j = I, all else zero
-unfoldable pub fresh : Setting → Meter
-fresh c =
+-- at first: each h_j = I, all else zero
+unfoldable pub freshState : (I : ℕ) → State
+freshState I =
     record {
-      setting = c;
       sums = record { n = 0; s = pos 0; sq = words 0; p = 0; q = 0 };
       a = fifteen (λ j. 0);
-      h = fifteen (λ j. iOf c);
+      h = fifteen (λ j. I);
     }
 
 -- the sums after a sample x. Q is fed the new P
@@ -55,18 +45,17 @@ summed K m x =
       q = smooth K (m .q) P;
     }
 
--- the meter after a sample x
-unfoldable pub sample : (K I : ℕ) → Meter → ℤ → Meter
+-- all of it after a sample x
+unfoldable pub sample : (K I : ℕ) → State → ℤ → State
 sample K I m x =
     let sums = summed K (m .sums) x in
     record {
-      setting = m .setting;
       sums = sums;
       a = fifteen (λ j. counted I (leb (threshold j) (sums .q)) (getD (m .a) j 0) (getD (m .h) j 0));
       h = fifteen (λ j. hung I (leb (threshold j) (sums .q)) (getD (m .h) j 0));
     }
 
--- the meter after samples in order
-unfoldable pub samples : (K I : ℕ) → Meter → List ℤ → Meter
+-- and after samples in order
+unfoldable pub samples : (K I : ℕ) → State → List ℤ → State
 samples K I m [] = m
 samples K I m (x ∷ xs) = samples K I (sample K I m x) xs

@@ -1,10 +1,5 @@
-// One sample (document 01, "One sample"): what a meter holds.
+// One sample (document 01, "One sample"): what samples change of a meter.
 use level::Squares;
-
-// What is chosen when a meter is opened.
-pub struct Setting {
-    pub code: u32,
-}
 
 // n, s, sq, P and Q.
 pub struct Sums {
@@ -15,10 +10,8 @@ pub struct Sums {
     pub q: u64,
 }
 
-// A meter: its sums and, for each of the fifteen thresholds, the activity count a and the
-// hangover h.
-pub struct Meter {
-    pub setting: Setting,
+// The sums and, for each of the fifteen thresholds, the activity count a and the hangover h.
+pub struct State {
     pub sums: Sums,
     pub a: [u64; 15],
     pub h: [u64; 15],
