@@ -12,6 +12,7 @@ use Rattle.rate.specs.Rates.{isNamed}
 use Rattle.sample.specs.declared.State.{State}
 use Rattle.sample.specs.declared.Sums.{Sums}
 use Rattle.sample.specs.Sample.{freshState, summed, sample, samples}
+use Rattle.sample.proofs.Kept.{number-words}
 use Rattle.meter.specs.declared.Meter.{Meter}
 use Rattle.meter.specs.Settings.{kOf, iOf}
 use Rattle.meter.specs.Calls.{fresh, afterSamples}
@@ -20,7 +21,7 @@ use Rattle.exact.specs.Demands.{meterAfter, exactAfter, sum, sumOfSquare
 use Rattle.exact.specs.Exact.{E, startAt, start, take, takeAll, accepts, samplesOf, fed, exactly, took}
 use Rattle.exact.specs.Lists.{Call, Typed, called, after}
 use Rattle.exact.proofs.Calls.{Good, good-possible, good-call, good-after, good-fresh, call-meter, split}
-use Rattle.exact.proofs.Tied.{number-words, total}
+use Rattle.exact.proofs.Tied.{total}
 
 sum-append : (xs ys : List ℤ) → sum (xs ++ ys) ≡ sum xs +ℤ sum ys
 unfolding sum

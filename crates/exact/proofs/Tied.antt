@@ -18,35 +18,17 @@ use Rattle.level.specs.Logarithm.{number}
 use Rattle.sample.specs.declared.State.{State}
 use Rattle.sample.specs.Activity.{counted, hung}
 use Rattle.sample.specs.Envelope.{smooth, rectified, threshold}
-use Rattle.sample.specs.Sample.{fifteen, words, freshState, summed, sample, samples}
+use Rattle.sample.specs.Sample.{fifteen, words, freshState, summed, counts, hangovers, sample, samples}
 use Rattle.sample.proofs.Activity.{Under, under-refl, under-step, counted-le, hung-le}
 use Rattle.sample.proofs.Envelope.{smooth-le}
 use Rattle.sample.proofs.Fifteen.{fifteen-at}
+use Rattle.sample.proofs.Kept.{number-words}
+use Rattle.sample.proofs.Signs.{small, abs-sum}
 use Rattle.exact.specs.Exact.{E, startAt, reaches, countNext, hangoverNext, take, takeAll}
 use Rattle.rate.specs.Rates.{Ceiling}
 use Rattle.exact.specs.Demands.{envelopeAfter, exactEnvelopeAfter, EnvelopeBound}
 use Rattle.exact.specs.Lists.{AllSamples}
 use Rattle.exact.proofs.Envelope.{Near, near-step, near-zero, near-below, fed-exact, fed-near, then-exact, then-rounded}
-
--- ---- one sample's size
-
-sub-abs : (b : Bool) (x y : ℕ) → natAbs (cond b (negsuc (suc y - suc x)) (pos (x - suc y))) ≤ x + suc y
-sub-abs true x y = omega arith
-sub-abs false x y = omega arith
-
-abs-sum : (a b : ℤ) → natAbs (a +ℤ b) ≤ natAbs a + natAbs b
-abs-sum (pos a) (pos b) = le-refl (a + b)
-abs-sum (pos a) (negsuc b) = sub-abs (lib.Dec.ltb a (suc b)) a b
-abs-sum (negsuc a) (pos b) = omega (arith, sub-abs (lib.Dec.ltb b (suc a)) b a)
-abs-sum (negsuc a) (negsuc b) = omega arith
-
-pub small : (x : ℤ) → SFits w16 x → natAbs x ≤ 2 ^ 15
-small (pos n) f = omega (arith, f .sfits)
-small (negsuc n) f = omega (arith, f .sfits)
-
-pub number-words : (N : ℕ) → number (words N) ≡ N
-unfolding words
-number-words N = div-add-mod' N (2 ^ 64)
 
 -- ---- what E keeps
 
@@ -173,16 +155,16 @@ module _ (D : ℕ) (m : State) (e : E) (x : ℤ) (k0 : 0 < e .K) (kG : e .K ≤ 
   P-max = smooth-le (e .K) (2 ^ 39) (m .sums .p) (natAbs x * 2 ^ 24) kG (t .p-max) (omega (arith, sx))
 
   pub tied-step : Tied D (sample (e .K) (e .I) m x) (take e x)
-  unfolding sample summed take P Q W pn qn
+  unfolding sample summed counts hangovers take P Q W pn qn
   tied-step =
       record {
         taken = ap (λ (i : ℕ). i + 1) (t .taken);
         power = number-words (number (m .sums .sq) + natAbs x * natAbs x) ∙ ap (λ (s : ℕ). s + natAbs x * natAbs x) (t .power);
         p = p-near;
         q = q-near;
-        each = λ j l. subst (λ (h : ℕ). Between D j (m .sums .n + 1) (getD (fifteen counts) j 0) h (take e x)) (sym (fifteen-at hangs j l))
-            (subst (λ (a : ℕ). Between D j (m .sums .n + 1) a (hangs j) (take e x)) (sym (fifteen-at counts j l)) (counter j l));
-        falls = λ j l. both-at counts hangs (j + 1) j l (omega arith)
+        each = λ j l. subst (λ (h : ℕ). Between D j (m .sums .n + 1) (getD (fifteen countOf) j 0) h (take e x)) (sym (fifteen-at hangs j l))
+            (subst (λ (a : ℕ). Between D j (m .sums .n + 1) a (hangs j) (take e x)) (sym (fifteen-at countOf j l)) (counter j l));
+        falls = λ j l. both-at countOf hangs (j + 1) j l (omega arith)
             (under-step (e .I) _ _ _ _ (leb (threshold (j + 1)) Q) (leb (threshold j) Q) (on-lower j) (t .falls j l));
         sum = omega (arith, abs-sum (m .sums .s) x, t .sum, sx);
         squares = le-trans (le-of-eq (number-words _)) (more (number (m .sums .sq)) (m .sums .n) (natAbs x * natAbs x) (t .squares) (mul-le-mul sx sx));
@@ -190,8 +172,8 @@ module _ (D : ℕ) (m : State) (e : E) (x : ℤ) (k0 : 0 < e .K) (kG : e .K ≤ 
         q-max = smooth-le (e .K) (2 ^ 39) (m .sums .q) P kG (t .q-max) P-max;
       }
     where
-      counts : ℕ → ℕ
-      counts j = counted (e .I) (leb (threshold j) Q) (getD (m .a) j 0) (getD (m .h) j 0)
+      countOf : ℕ → ℕ
+      countOf j = counted (e .I) (leb (threshold j) Q) (getD (m .a) j 0) (getD (m .h) j 0)
 
       hangs : ℕ → ℕ
       hangs j = hung (e .I) (leb (threshold j) Q) (getD (m .h) j 0)

@@ -54,6 +54,28 @@ place-is n b h l u =
 pub place-mono : (n p : ℕ) → 1 ≤ n → n ≤ p → p ≤ 2 ^ 80 → place n ≤ place p
 place-mono n p h l u = le-of-suc-le-suc (pow-lt-cancel (lt-of-le-of-lt (place-low n h) (lt-of-le-of-lt l (place-up p u))))
 
+-- the place in a word
+pub record Place (n b : ℕ) : Type 0 where
+  pub word : b < 64
+  pub low : 2 ^ b ≤ n
+  pub up : n < 2 ^ suc b
+
+pub word-place : (n : ℕ) → 0 < n → n < 2 ^ 64 → Place n (placeUpTo 63 n)
+word-place n h l =
+    let low = from-low 63 n h in
+    record { word = pow-lt-cancel {b = 64} (lt-of-le-of-lt low l); low = low; up = from-up 63 n l }
+
+pub word-place-is : (n b : ℕ) → n < 2 ^ 64 → Place n b → b ≡ placeUpTo 63 n
+word-place-is n b l p =
+    let q = word-place n (le-trans (pow-pos b) (p .low)) l in
+    le-antisymm
+    (le-of-suc-le-suc (pow-lt-cancel (lt-of-le-of-lt (p .low) (q .up))))
+    (le-of-suc-le-suc (pow-lt-cancel (lt-of-le-of-lt (q .low) (p .up))))
+
+pub place-zero : (n : ℕ) → n ≡ 0 → 0 ≡ placeUpTo 63 n
+unfolding placeUpTo
+place-zero n e = sym (ap (placeUpTo 63) e)
+
 -- ---- m at the start
 
 start-low : (n : ℕ) → start n * 2 ^ place n ≤ n * 2 ^ 31

@@ -1,9 +1,9 @@
 // The level logarithm (document 01, "The level logarithm"), and the types that keep counts of
 // samples and levels in steps apart: only the logarithm leads from the one to the other.
 ghost use mathlib.Core.Path.{_≡_};
-ghost use Prim.Native.Nat.{suc, _+_, _*_, _^_, _≤_, _<_};
+ghost use Prim.Native.Nat.{_+_, _*_, _^_, _≤_, _<_};
 ghost use lib.Dec.{ltb};
-ghost use Rattle.level.specs.Logarithm.{spell, lev, number, levelOf, valueOf};
+ghost use Rattle.level.specs.Logarithm.{placeUpTo, spell, lev, number, levelOf, valueOf};
 
 // A level, or a difference of two, in steps of 1/4096 of a doubling of power.
 pub struct Steps(pub i64);
@@ -91,11 +91,13 @@ fn two_words(high: u64, low: u64) -> u64
     4096 * (64 + j) + twelve_bits(m)
 }
 
-// The place of the highest one bit of a word that is not 0.
-fn top_place(word: u64) -> u64
-    requires { ⌜ 0 < word ⌝ }
-    ensures { λ r. ⌜ (r < 64) × (2 ^ r ≤ word) × (word < 2 ^ suc r) ⌝ }
+// The place of the highest one bit of a word, the lowest place being 0; 0 for the word 0.
+pub fn top_place(word: u64) -> u64
+    ensures { λ r. ⌜ r ≡ placeUpTo 63 word ⌝ }
 {
+    if word == 0 {
+        return 0;
+    }
     63 - u64::leading_zeros(word) as u64
 }
 

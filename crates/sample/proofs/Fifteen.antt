@@ -1,6 +1,6 @@
 -- Lists made from a function: what stands at each place.
-use mathlib.Core.List.{List, []}
-use mathlib.Core.Path.{_≡_, refl, sym, ap, _∙_}
+use mathlib.Core.List.{_∷_}
+use mathlib.Core.Path.{_≡_, refl, sym, ap, ap₂, _∙_}
 use Prim.Native.Nat.{ℕ, zero, suc, _+_, _<_}
 use native.Mathlib.Nat.{add-zero, le-of-suc-le-suc, not-suc-le-zero, zero-add}
 use native.Mathlib.Omega.{arith}
@@ -25,3 +25,12 @@ fifteen-length f = list-length f 0 15
 pub fifteen-at : (f : ℕ → ℕ) (j : ℕ) → j < 15 → getD (fifteen f) j 0 ≡ f j
 unfolding fifteen
 fifteen-at f j h = list-at f 0 15 j h ∙ ap f (zero-add j)
+
+list-same : (f g : ℕ → ℕ) → ((i : ℕ) → f i ≡ g i) → (j k : ℕ) → listFrom f j k ≡ listFrom g j k
+unfolding listFrom
+list-same f g e j zero = refl
+list-same f g e j (suc k) = ap₂ _∷_ (e j) (list-same f g e (j + 1) k)
+
+pub fifteen-same : (f g : ℕ → ℕ) → ((i : ℕ) → f i ≡ g i) → fifteen f ≡ fifteen g
+unfolding fifteen
+fifteen-same f g e = list-same f g e 0 15

@@ -1,3 +1,8 @@
 pub mod Activity
 pub mod Envelope
 pub mod Fifteen
+mod Front
+pub mod Kept
+mod Over
+mod Ran
+pub mod Signs

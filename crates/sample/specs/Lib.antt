@@ -1,3 +1,4 @@
 pub mod Activity
 pub mod Envelope
+pub mod Runs
 pub mod Sample

@@ -45,15 +45,18 @@ summed K m x =
       q = smooth K (m .q) P;
     }
 
+-- the counts and the hangovers after a sample that left the envelope at Q
+unfoldable pub counts : (I Q : ℕ) (a h : List ℕ) → List ℕ
+counts I Q a h = fifteen (λ j. counted I (leb (threshold j) Q) (getD a j 0) (getD h j 0))
+
+unfoldable pub hangovers : (I Q : ℕ) (h : List ℕ) → List ℕ
+hangovers I Q h = fifteen (λ j. hung I (leb (threshold j) Q) (getD h j 0))
+
 -- all of it after a sample x
 unfoldable pub sample : (K I : ℕ) → State → ℤ → State
 sample K I m x =
     let sums = summed K (m .sums) x in
-    record {
-      sums = sums;
-      a = fifteen (λ j. counted I (leb (threshold j) (sums .q)) (getD (m .a) j 0) (getD (m .h) j 0));
-      h = fifteen (λ j. hung I (leb (threshold j) (sums .q)) (getD (m .h) j 0));
-    }
+    record { sums = sums; a = counts I (sums .q) (m .a) (m .h); h = hangovers I (sums .q) (m .h) }
 
 -- and after samples in order
 unfoldable pub samples : (K I : ℕ) → State → List ℤ → State

@@ -1,0 +1,32 @@
+-- The closed forms of a hangover.
+use mathlib.Core.Bool.{Bool}
+use mathlib.Core.Path.{sym, ap, _∙_}
+use Prim.Native.Nat.{ℕ, _+_}
+use Rattle.sample.specs.Runs.{hangoverOver}
+use Rattle.sample.proofs.Over.{on-hangover, off-hangover}
+use borrow.Author.Needs.{needs}
+use Rattle.sample.proofs.counters.hung.Statement.{statement}
+use Rattle.sample.proofs.counters.hung.Tie as tie
+
+sub-least : tie.Need-sub-least
+sub-least c = search needs
+
+least-requires : tie.Need-least-requires
+least-requires c κs = search needs
+
+add-result : tie.Need-add-result
+add-result c = search needs
+
+returns : tie.Need-returns
+returns c =
+    let s = c .before .args in
+    sym (ap (λ (b : Bool). hangoverOver (s .i) b (s .run) (s .h)) (c .if1 .taken) ∙ on-hangover (s .i) (s .run) (s .h) (c .before .pre .0))
+
+returns-2 : tie.Need-returns-2
+returns-2 c =
+    let s = c .before .before .args in
+    ap (λ (n : ℕ). s .h + n) (c .least .ensures)
+    ∙ sym (ap (λ (b : Bool). hangoverOver (s .i) b (s .run) (s .h)) (c .before .if1 .left) ∙ off-hangover (s .i) (s .run) (s .h) (c .before .before .pre .1))
+
+pub hung-spec : {M : Type 1} → statement M
+hung-spec = tie.close (tie.spec sub-least least-requires add-result returns returns-2)
