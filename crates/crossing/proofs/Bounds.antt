@@ -16,7 +16,7 @@ use Rattle.level.specs.Logarithm.{lev}
 use Rattle.level.proofs.Laws.{facts}
 use Rattle.crossing.specs.Levels.{longTerm, activeAt, levelOfThreshold, excess}
 use Rattle.crossing.specs.Crossing.{isZero, isCrossing, lowerOf, activeLevel}
-use Rattle.crossing.proofs.Differences.{sub-pos, sub-neg, sub-less, sub-more, sub-sub, sub-both, not-above, above, below, level-with}
+use Rattle.crossing.proofs.Differences.{sub-is, sub-pos, sub-neg, sub-less, sub-more, sub-sub, sub-both, not-above, above, below, level-with}
 
 -- ---- a level in whole numbers
 
@@ -39,19 +39,21 @@ less-two sq a e A s0 s1 a0 a1 l h =
 -- ---- the interpolation: with ls = lev(sq), it adds to A_lower = ls − la a part f of la − lb
 
 interpolated : (ls la lb x y : ℕ) → lb ≤ la
-    → subℕ ls la +ℤ shrZ ((subℕ ls lb -ℤ subℕ ls la) *ℤ pos x) (natAbs (pos x -ℤ negsuc y)) ≡ subℕ (ls + (la - lb) * x / (x + suc y)) la
+    → (pos ls -ℤ pos la) +ℤ shrZ (((pos ls -ℤ pos lb) -ℤ (pos ls -ℤ pos la)) *ℤ pos x) (natAbs (pos x -ℤ negsuc y)) ≡ subℕ (ls + (la - lb) * x / (x + suc y)) la
 interpolated ls la lb x y h =
-    ap (λ (z : ℤ). subℕ ls la +ℤ shrZ (z *ℤ pos x) (x + suc y)) (sub-sub ls la lb h)
+    ap₂ (λ (A B : ℤ). A +ℤ shrZ ((B -ℤ A) *ℤ pos x) (x + suc y)) (sub-is ls la) (sub-is ls lb)
+    ∙ ap (λ (z : ℤ). subℕ ls la +ℤ shrZ (z *ℤ pos x) (x + suc y)) (sub-sub ls la lb h)
     ∙ sub-more ls la ((la - lb) * x / (x + suc y))
 
 part : (r x y : ℕ) → r * x / (x + suc y) ≤ r
 part r x y = div-le-of-le-mul (x + suc y) (omega arith)
 
 -- d_j as one difference
-pub excess-is : (M sq : ℕ) (a : List ℕ) (j : ℕ) → excess M sq a j ≡ subℕ (lev sq) (lev (getD a j 0) + 8192 * j + M)
+pub excess-is : (M sq : ℕ) (a : List ℕ) (j : ℕ) → excess M (pos (lev sq)) a j ≡ subℕ (lev sq) (lev (getD a j 0) + 8192 * j + M)
 unfolding excess activeAt levelOfThreshold
 excess-is M sq a j =
-    ap (λ (z : ℤ). z -ℤ pos M) (sub-less (lev sq) (lev (getD a j 0)) (8192 * j))
+    ap (λ (z : ℤ). z -ℤ pos (8192 * j) -ℤ pos M) (sub-is (lev sq) (lev (getD a j 0)))
+    ∙ ap (λ (z : ℤ). z -ℤ pos M) (sub-less (lev sq) (lev (getD a j 0)) (8192 * j))
     ∙ sub-less (lev sq) (lev (getD a j 0) + 8192 * j) M
 
 -- ---- what a crossing is
@@ -68,23 +70,23 @@ pieces false z l u v e h = absurd (subst T (sym h) tt)
 -- the level at a crossing j, whose lower threshold is i: (lev(sq) + f) − lev(a_i)
 pub record Crossed (M sq : ℕ) (a : List ℕ) (j : ℕ) : Type 0 where
   pub i : ℕ
-  pub lower : lowerOf M sq a j ≡ i
+  pub lower : lowerOf M (pos (lev sq)) a j ≡ i
   pub reach : i ≤ j
   pub alive : 0 < getD a j 0
   pub counts : getD a j 0 ≤ getD a i 0
   pub f : ℕ
-  pub level : activeLevel M sq a j ≡ subℕ (lev sq + f) (lev (getD a i 0))
+  pub level : activeLevel M (pos (lev sq)) a j ≡ subℕ (lev sq + f) (lev (getD a i 0))
   pub part-of : f + lev (getD a j 0) ≤ lev (getD a i 0)
   pub over : lev (getD a i 0) + 8192 * i + M ≤ lev sq
 
-module _ (M sq : ℕ) (a : List ℕ) (j : ℕ) (cross : isCrossing M sq a j ≡ true) where
+module _ (M sq : ℕ) (a : List ℕ) (j : ℕ) (cross : isCrossing M (pos (lev sq)) a j ≡ true) where
   -- a_j is above 0
   pub alive : 0 < getD a j 0
   unfolding isCrossing
   alive = ltb-true _ _ (both _ _ cross .0)
 
   -- d_j = 0: the level is A_j
-  crossed-at : isZero (excess M sq a j) ≡ true → Crossed M sq a j
+  crossed-at : isZero (excess M (pos (lev sq)) a j) ≡ true → Crossed M sq a j
   unfolding lowerOf activeLevel activeAt
   crossed-at z =
       let e = level-with (lev sq) (lev (getD a j 0) + 8192 * j + M) (ap isZero (sym (excess-is M sq a j)) ∙ z) in
@@ -95,18 +97,18 @@ module _ (M sq : ℕ) (a : List ℕ) (j : ℕ) (cross : isCrossing M sq a j ≡ 
         alive = alive;
         counts = le-refl (getD a j 0);
         f = 0;
-        level = simp z (ap (λ (s : ℕ). subℕ s (lev (getD a j 0))) (sym (add-zero (lev sq))));
+        level = simp z (sub-is (lev sq) (lev (getD a j 0)) ∙ ap (λ (s : ℕ). subℕ s (lev (getD a j 0))) (sym (add-zero (lev sq))));
         part-of = omega arith;
         over = le-of-eq (sym e);
       }
 
   -- the signs on both sides of a change of sign
-  changed : isZero (excess M sq a j) ≡ false → (1 ≤ j) × (ltZ (pos 0) (excess M sq a (j - 1)) ≡ true) × (ltZ (excess M sq a j) (pos 0) ≡ true)
+  changed : isZero (excess M (pos (lev sq)) a j) ≡ false → (1 ≤ j) × (ltZ (pos 0) (excess M (pos (lev sq)) a (j - 1)) ≡ true) × (ltZ (excess M (pos (lev sq)) a j) (pos 0) ≡ true)
   unfolding isCrossing
   changed z = let k = pieces (ltb 0 (getD a j 0)) _ (leb 1 j) _ _ z cross in (leb-true _ _ (k .0), k .1, k .2)
 
   -- else the level lies between A_(j−1) and A_j
-  crossed-over : (1 ≤ j → getD a j 0 ≤ getD a (j - 1) 0) → getD a (j - 1) 0 ≤ 2 ^ 80 → isZero (excess M sq a j) ≡ false → Crossed M sq a j
+  crossed-over : (1 ≤ j → getD a j 0 ≤ getD a (j - 1) 0) → getD a (j - 1) 0 ≤ 2 ^ 80 → isZero (excess M (pos (lev sq)) a j) ≡ false → Crossed M sq a j
   unfolding lowerOf activeLevel activeAt
   crossed-over falls few z =
       record {
@@ -116,12 +118,12 @@ module _ (M sq : ℕ) (a : List ℕ) (j : ℕ) (cross : isCrossing M sq a j ≡ 
         alive = alive;
         counts = falls (c .0);
         f = (la - lb) * x / (x + suc y);
-        level = simp z (ap₂ (λ (d e : ℤ). subℕ ls la +ℤ shrZ ((subℕ ls lb -ℤ subℕ ls la) *ℤ d) (natAbs (d -ℤ e))) low-is high-is ∙ interpolated ls la lb x y lev-falls);
+        level = simp z (ap₂ (λ (d e : ℤ). (pos ls -ℤ pos la) +ℤ shrZ (((pos ls -ℤ pos lb) -ℤ (pos ls -ℤ pos la)) *ℤ d) (natAbs (d -ℤ e))) low-is high-is ∙ interpolated ls la lb x y lev-falls);
         part-of = omega (arith, part (la - lb) x y, lev-falls);
         over = le-of-lt low;
       }
     where
-      c : (1 ≤ j) × (ltZ (pos 0) (excess M sq a (j - 1)) ≡ true) × (ltZ (excess M sq a j) (pos 0) ≡ true)
+      c : (1 ≤ j) × (ltZ (pos 0) (excess M (pos (lev sq)) a (j - 1)) ≡ true) × (ltZ (excess M (pos (lev sq)) a j) (pos 0) ≡ true)
       c = changed z
 
       ls : ℕ
@@ -148,26 +150,26 @@ module _ (M sq : ℕ) (a : List ℕ) (j : ℕ) (cross : isCrossing M sq a j ≡ 
       y : ℕ
       y = lb + 8192 * j + M - suc ls
 
-      low-is : excess M sq a (j - 1) ≡ pos x
+      low-is : excess M (pos (lev sq)) a (j - 1) ≡ pos x
       low-is = excess-is M sq a (j - 1) ∙ sub-pos ls (la + 8192 * (j - 1) + M) (le-of-lt low)
 
-      high-is : excess M sq a j ≡ negsuc y
+      high-is : excess M (pos (lev sq)) a j ≡ negsuc y
       high-is = excess-is M sq a j ∙ sub-neg ls (lb + 8192 * j + M) high
 
   pub crossed : (1 ≤ j → getD a j 0 ≤ getD a (j - 1) 0) → getD a (j - 1) 0 ≤ 2 ^ 80 → Crossed M sq a j
-  crossed falls few = go (isZero (excess M sq a j)) refl
+  crossed falls few = go (isZero (excess M (pos (lev sq)) a j)) refl
     where
-      go : (t : Bool) → isZero (excess M sq a j) ≡ t → Crossed M sq a j
+      go : (t : Bool) → isZero (excess M (pos (lev sq)) a j) ≡ t → Crossed M sq a j
       go true z = crossed-at z
       go false z = crossed-over falls few z
 
 -- the factor F = L − A is never above 0, where a_lower is at most n
 pub factor : (M sq n : ℕ) (a : List ℕ) (j : ℕ) → (c : Crossed M sq a j) → getD a (c .i) 0 ≤ n → n ≤ 2 ^ 80
-    → ltZ (pos 0) (longTerm sq n -ℤ activeLevel M sq a j) ≡ false
+    → ltZ (pos 0) (longTerm (pos (lev sq)) n -ℤ activeLevel M (pos (lev sq)) a j) ≡ false
 unfolding longTerm
 factor M sq n a j c few big =
     let l = facts .never-falls (getD a (c .i) 0) n (le-trans (c .alive) (c .counts)) few big in
-    ap (λ (z : ℤ). ltZ (pos 0) (subℕ (lev sq) (lev n) -ℤ z)) (c .level)
+    ap₂ (λ (y z : ℤ). ltZ (pos 0) (y -ℤ z)) (sub-is (lev sq) (lev n)) (c .level)
     ∙ ap (ltZ (pos 0)) (sub-both (lev sq) (lev n) (lev (getD a (c .i) 0)) (c .f))
     ∙ not-above (lev (getD a (c .i) 0)) (lev n + c .f) (omega arith)
 
@@ -175,7 +177,7 @@ factor M sq n a j c few big =
 
 pub record Bounded (M sq : ℕ) (a : List ℕ) (j e e′ : ℕ) : Type 0 where
   pub A : ℕ
-  pub reported : activeLevel M sq a j ≡ pos A
+  pub reported : activeLevel M (pos (lev sq)) a j ≡ pos A
   pub above-zero : 0 < A
   pub plus : sq ^ 4096 < 2 ^ (A + 2) * e ^ 4096
   pub less : 2 ^ A * e′ ^ 4096 < 4 * sq ^ 4096

@@ -16,6 +16,11 @@ sub-pos a b h = rw (le-ltb a b h)
 pub sub-neg : (a b : ℕ) → a < b → subℕ a b ≡ negsuc (b - suc a)
 sub-neg a b h = rw (lt-ltb a b h)
 
+-- a − b from the integers a and b
+pub sub-is : (a b : ℕ) → pos a -ℤ pos b ≡ subℕ a b
+sub-is a zero = let e : a + 0 ≡ a - 0 = omega arith in ap pos e ∙ sym (sub-pos a 0 (omega arith))
+sub-is a (suc b) = refl
+
 -- (a − b) − c
 less : (a b k : ℕ) (s t : Bool) → ltb a b ≡ s → ltb a (b + suc k) ≡ t
     → cond s (negsuc (b - suc a)) (pos (a - b)) +ℤ negsuc k ≡ cond t (negsuc (b + suc k - suc a)) (pos (a - (b + suc k)))

@@ -1,3 +1,3 @@
 pub mod Bounds
 mod Differences
-pub mod Search
+pub mod Lowest

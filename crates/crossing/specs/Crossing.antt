@@ -1,4 +1,4 @@
--- The crossing, and the active level at it: document 01, "The report". M is the margin, sq the sum of squares, a the activity counts.
+-- The crossing, and the active level at it: document 01, "The report". M is the margin, S is lev(sq), and a the activity counts.
 use mathlib.Core.Bool.{Bool, false, cond, _&&_, _||_}
 use mathlib.Core.List.{List}
 use mathlib.Core.Option.{Option, none, some}
@@ -14,9 +14,9 @@ isZero (pos n) = eqb n 0
 isZero (negsuc n) = false
 
 -- a crossing is at j when a_j is above 0 and either d_j is 0, or j is at least 1, d_(j−1) is positive and d_j negative
-unfoldable pub isCrossing : (M sq : ℕ) (a : List ℕ) (j : ℕ) → Bool
-isCrossing M sq a j =
-    let d = excess M sq a in
+unfoldable pub isCrossing : (M : ℕ) (S : ℤ) (a : List ℕ) (j : ℕ) → Bool
+isCrossing M S a j =
+    let d = excess M S a in
     ltb 0 (getD a j 0) && (isZero (d j) || (leb 1 j && ltZ (pos 0) (d (j - 1)) && ltZ (d j) (pos 0)))
 
 -- the lowest of j, j + 1, .., k of them, at which f holds
@@ -25,19 +25,19 @@ lowestFrom f j zero = none
 lowestFrom f j (suc k) = cond (f j) (some j) (lowestFrom f (j + 1) k)
 
 -- the lowest crossing
-unfoldable pub crossing : (M sq : ℕ) (a : List ℕ) → Option ℕ
-crossing M sq a = lowestFrom (isCrossing M sq a) 0 15
+unfoldable pub crossing : (M : ℕ) (S : ℤ) (a : List ℕ) → Option ℕ
+crossing M S a = lowestFrom (isCrossing M S a) 0 15
 
 -- a crossing's lower and upper threshold
-unfoldable pub lowerOf : (M sq : ℕ) (a : List ℕ) (j : ℕ) → ℕ
-lowerOf M sq a j = cond (isZero (excess M sq a j)) j (j - 1)
+unfoldable pub lowerOf : (M : ℕ) (S : ℤ) (a : List ℕ) (j : ℕ) → ℕ
+lowerOf M S a j = cond (isZero (excess M S a j)) j (j - 1)
 
 abbrev pub upperOf : (j : ℕ) → ℕ
 upperOf j = j
 
 -- A at a crossing j: A_j where d_j is 0, else A_(j−1) + floor((A_j − A_(j−1))·d_(j−1) / (d_(j−1) − d_j))
-unfoldable pub activeLevel : (M sq : ℕ) (a : List ℕ) (j : ℕ) → ℤ
-activeLevel M sq a j =
-    let A = activeAt sq a in
-    let d = excess M sq a in
+unfoldable pub activeLevel : (M : ℕ) (S : ℤ) (a : List ℕ) (j : ℕ) → ℤ
+activeLevel M S a j =
+    let A = activeAt S a in
+    let d = excess M S a in
     cond (isZero (d j)) (A j) (A (j - 1) +ℤ shrZ ((A j -ℤ A (j - 1)) *ℤ d (j - 1)) (natAbs (d (j - 1) -ℤ d j)))

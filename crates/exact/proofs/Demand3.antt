@@ -8,18 +8,19 @@ use native.Mathlib.Nat.{le-refl, le-trans, le-of-eq}
 use native.Mathlib.Omega.{arith}
 use lib.IntN.{ℤ, pos}
 use lib.ListN.{length, getD}
-use Rattle.level.specs.Logarithm.{number}
+use Rattle.level.specs.Logarithm.{number, lev}
 use Rattle.rate.specs.Rates.{rowOf, isNamed}
 use Rattle.sample.specs.Envelope.{threshold}
 use Rattle.crossing.specs.Crossing.{lowerOf, activeLevel}
 use Rattle.crossing.proofs.Bounds.{Crossed, crossed, Bounded, bounded}
 use Rattle.meter.specs.declared.Meter.{Meter}
 use Rattle.meter.specs.declared.Report.{Report}
-use Rattle.meter.specs.Reports.{margin, reportAt}
+use Rattle.crossing.specs.Found.{margin, levelsAt}
+use Rattle.meter.specs.Reports.{reportAt}
 use Rattle.meter.specs.Calls.{fresh, reportCall}
 use Rattle.meter.proofs.Possible.{passes, falling}
 use Rattle.meter.proofs.Reported.{Levels, levels, level-or-refusal}
-use Rattle.exact.specs.Demands.{meterAfter, exactAfter, countAt, LevelBounds, Demand3}
+use Rattle.exact.specs.Demands.{meterAfter, exactAfter, countAt, LevelBounds, Claim}
 use Rattle.exact.specs.Exact.{E, start, startAt, takeAll, accepts, fed, samplesOf, exactly}
 use Rattle.exact.specs.Lists.{Call, Typed}
 use Rattle.exact.proofs.Calls.{Good, good-possible, good-after, good-fresh, same-answers}
@@ -59,14 +60,14 @@ module _ (m : Meter) (e : E) (g : Good m e) (L : Levels m) where
       (few (cross .i) below) (g .tied .each (cross .i) below .high .count) (g .tied .each (L .j) (L .below) .low .count)
 
   at-crossing : LevelBounds (reportAt m (L .j)) e (rowOf (e .code) .d)
-  unfolding sq reportAt
+  unfolding sq reportAt levelsAt
   at-crossing =
       let b = bounds in
       record {
         A = b .A;
         reported = b .reported;
         above-zero = b .above-zero;
-        plus-two = subst (λ (s : ℕ). s ^ 4096 < 2 ^ (b .A + 2) * countAt e (threshold (lowerOf margin (number (m .state .sums .sq)) (m .state .a) (L .j))) ^ 4096) (g .tied .power)
+        plus-two = subst (λ (s : ℕ). s ^ 4096 < 2 ^ (b .A + 2) * countAt e (threshold (lowerOf margin (pos (lev (number (m .state .sums .sq)))) (m .state .a) (L .j))) ^ 4096) (g .tied .power)
             (subst (λ (i : ℕ). number (m .state .sums .sq) ^ 4096 < 2 ^ (b .A + 2) * countAt e (threshold i) ^ 4096) (sym (cross .lower)) (b .plus));
         less-two = subst (λ (s : ℕ). 2 ^ b .A * countAt e (threshold (L .j) + rowOf (e .code) .d) ^ 4096 < 4 * s ^ 4096) (g .tied .power) (b .less);
       }
@@ -80,7 +81,7 @@ code-is : (code : ℕ) (calls : List Call) → exactAfter code calls .code ≡ c
 unfolding start startAt
 code-is code calls = kept-code calls (start code)
 
-pub demand3 : (code : ℕ) (calls : List Call) → isNamed code ≡ true → Typed calls → Demand3 code calls
+pub demand3 : Claim
 demand3 code calls n f =
     let start-good = good-fresh code n in
     let g = good-after calls (fresh (record { code = code })) (start code) f start-good in

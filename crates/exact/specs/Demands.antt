@@ -1,5 +1,5 @@
 -- Demand 3, and what is promised beside it: statements about a named rate code and any list of calls from a fresh meter.
-use mathlib.Core.Bool.{false}
+use mathlib.Core.Bool.{true, false}
 use mathlib.Core.List.{List, [], _∷_}
 use mathlib.Core.Logic.{_⊎_}
 use mathlib.Core.Path.{_≡_}
@@ -7,7 +7,7 @@ use Prim.Native.Nat.{ℕ, _+_, _*_, _^_, _≤_, _<_}
 use lib.IntN.{ℤ, pos, natAbs, _+ℤ_}
 use lib.ListN.{length, getD}
 use Rattle.level.specs.Logarithm.{number}
-use Rattle.rate.specs.Rates.{rowOf}
+use Rattle.rate.specs.Rates.{rowOf, isNamed}
 use Rattle.sample.specs.Envelope.{threshold}
 use Rattle.sample.specs.Sample.{freshState, samples}
 use Rattle.meter.specs.declared.Meter.{Meter}
@@ -15,7 +15,7 @@ use Rattle.meter.specs.declared.Report.{Report}
 use Rattle.meter.specs.Calls.{fresh, reportCall}
 use Rattle.meter.specs.Refusals.{impossible}
 use Rattle.exact.specs.Exact.{E, startAt, start, takeAll, exactly, acceptedByE, took}
-use Rattle.exact.specs.Lists.{Call, after, accepted}
+use Rattle.exact.specs.Lists.{Call, Typed, after, accepted}
 
 -- Q, and the numerator of E's q, after samples from a fresh start with any K and I
 abbrev pub envelopeAfter : (K I : ℕ) → List ℤ → ℕ
@@ -44,10 +44,10 @@ countAt e c = e .u c
 -- steps is below it at the upper threshold raised by D
 pub record LevelBounds (r : Report) (e : E) (D : ℕ) : Type 0 where
   pub A : ℕ
-  pub reported : r .active .0 ≡ pos A
+  pub reported : r .levels .active .0 ≡ pos A
   pub above-zero : 0 < A
-  pub plus-two : e .sq ^ 4096 < 2 ^ (A + 2) * countAt e (threshold (r .lower)) ^ 4096
-  pub less-two : 2 ^ A * countAt e (threshold (r .upper) + D) ^ 4096 < 4 * e .sq ^ 4096
+  pub plus-two : e .sq ^ 4096 < 2 ^ (A + 2) * countAt e (threshold (r .levels .lower)) ^ 4096
+  pub less-two : 2 ^ A * countAt e (threshold (r .levels .upper) + D) ^ 4096 < 4 * e .sq ^ 4096
 
 -- demand 3
 pub record Demand3 (code : ℕ) (calls : List Call) : Type 0 where
@@ -67,6 +67,10 @@ pub record Demand3 (code : ℕ) (calls : List Call) : Type 0 where
   pub levels :
       reportCall (meterAfter code calls) .number ≡ 0
       → LevelBounds (reportCall (meterAfter code calls) .report) (exactAfter code calls) (rowOf code .d)
+
+-- the claim: demand 3 holds for every named rate code and every list of calls
+abbrev pub Claim : Type 0
+Claim = (code : ℕ) (calls : List Call) → isNamed code ≡ true → Typed calls → Demand3 code calls
 
 -- the sum, and the sum of squares, of samples
 unfoldable pub sum : List ℤ → ℤ

@@ -11,8 +11,9 @@ use Rattle.sample.specs.Envelope.{smooth, rectified, threshold}
 use Rattle.sample.specs.Sample.{listFrom, fifteen, words, freshState, summed, counts, hangovers, sample, samples}
 use Rattle.crossing.specs.Levels.{longTerm, activeAt, levelOfThreshold, excess}
 use Rattle.crossing.specs.Crossing.{isCrossing, lowestFrom, crossing, lowerOf, activeLevel}
+use Rattle.crossing.specs.Found.{levelsAt, noLevels, crossingIn, firstExcess}
 use Rattle.meter.specs.Refusals.{someBelow, unnamedCode, unnamedSetting, manySamples, largeSum, largeSquares, largeEnvelope, longHangover, largeCount, risingCounts, fallingHangovers, impossible, longChunk, wrongPlace, tooMany, chunkRules, blockCallRules}
-use Rattle.meter.specs.Reports.{crossingOf, firstExcess, noSamples, noSignal, noActivity, levelBelow, levelAbove, reportRules, noReport, reportAt, reportFor}
+use Rattle.meter.specs.Reports.{crossingOf, firstOfMeter, noSamples, noSignal, noActivity, levelBelow, levelAbove, reportRules, noReport, reportAt, reportFor}
 use Rattle.meter.specs.Settings.{kOf, iOf}
 use Rattle.meter.specs.Calls.{fresh, afterSamples, chunkCall, blockCall, reportCall}
 use Rattle.exact.specs.Exact.{startAt, start, reaches, countNext, hangoverNext, take, takeAll, accepts, samplesOf, fed, exactly}
@@ -21,7 +22,7 @@ use Rattle.figures.specs.Rows.{given, sampledMeter, levelsOf, valuesOf, 
 use Rattle.figures.specs.Table.{lowestBytes, twenty, run, table}
 
 pub figures : All table
-unfolding placeUpTo place startOf bit next spell lev levelOf rateOf isNamed rowOf firstOf number kind rateCode count before signed samplesAt samplesIn word sumBelow checkSum weightedSum wrongLength wrongCheck wrongKind wrongRate wrongCount zeros usedUnused blockRules sound counted hung smooth rectified threshold listFrom fifteen words freshState kOf iOf fresh afterSamples summed counts hangovers sample samples longTerm activeAt levelOfThreshold excess isCrossing lowestFrom crossing lowerOf activeLevel someBelow unnamedCode unnamedSetting manySamples largeSum largeSquares largeEnvelope longHangover largeCount risingCounts fallingHangovers impossible longChunk wrongPlace tooMany chunkRules blockCallRules crossingOf firstExcess noSamples noSignal noActivity levelBelow levelAbove reportRules noReport reportAt reportFor chunkCall blockCall reportCall startAt start reaches countNext hangoverNext take takeAll accepts samplesOf fed exactly called after given sampledMeter levelsOf valuesOf Holds All lowestBytes twenty run table
+unfolding placeUpTo place startOf bit next spell lev levelOf rateOf isNamed rowOf firstOf number kind rateCode count before signed samplesAt samplesIn word sumBelow checkSum weightedSum wrongLength wrongCheck wrongKind wrongRate wrongCount zeros usedUnused blockRules sound counted hung smooth rectified threshold listFrom fifteen words freshState kOf iOf fresh afterSamples summed counts hangovers sample samples longTerm activeAt levelOfThreshold excess isCrossing lowestFrom crossing lowerOf activeLevel someBelow unnamedCode unnamedSetting manySamples largeSum largeSquares largeEnvelope longHangover largeCount risingCounts fallingHangovers impossible longChunk wrongPlace tooMany chunkRules blockCallRules levelsAt noLevels crossingIn firstExcess crossingOf firstOfMeter noSamples noSignal noActivity levelBelow levelAbove reportRules noReport reportAt reportFor chunkCall blockCall reportCall startAt start reaches countNext hangoverNext take takeAll accepts samplesOf fed exactly called after given sampledMeter levelsOf valuesOf Holds All lowestBytes twenty run table
 figures = (
   refl,
   (

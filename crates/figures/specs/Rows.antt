@@ -65,12 +65,12 @@ sampledMeter code xs = afterSamples (fresh (record { code = code })) xs
 unfoldable pub levelsOf : Report → Levels
 levelsOf r =
     record {
-      L = r .level .0;
-      A = r .active .0;
-      C = r .threshold .0;
-      F = r .factor .0;
-      lower = r .lower;
-      upper = r .upper;
+      L = r .levels .level .0;
+      A = r .levels .active .0;
+      C = r .levels .threshold .0;
+      F = r .levels .factor .0;
+      lower = r .levels .lower;
+      upper = r .levels .upper;
     }
 
 unfoldable pub valuesOf : Meter → Values
@@ -97,7 +97,7 @@ Holds (played code calls v) = valuesOf (meterAfter code calls) ≡ v
 Holds (needsTwo code calls A) =
     let r = reportCall (meterAfter code calls) .report in
     let e = exactAfter code calls in
-    (r .active .0 ≡ pos A) × (2 ^ (A + 1) * countAt e (threshold (r .lower)) ^ 4096 ≤ e .sq ^ 4096)
+    (r .levels .active .0 ≡ pos A) × (2 ^ (A + 1) * countAt e (threshold (r .levels .lower)) ^ 4096 ≤ e .sq ^ 4096)
 Holds (counted code calls c u) = countAt (exactAfter code calls) c ≡ u
 
 -- every row of a table holds

@@ -19,10 +19,11 @@ use Rattle.refusal.proofs.Laws.{here, lowest, only-where}
 use Rattle.block.specs.Refusals.{blockRules}
 use Rattle.meter.specs.declared.Meter.{Meter}
 use Rattle.meter.specs.declared.Setting.{Setting}
+use Rattle.crossing.specs.Found.{margin, levelsAt}
 use Rattle.crossing.proofs.Bounds.{alive, Crossed, crossed, factor}
 use Rattle.meter.specs.declared.Report.{Report}
 use Rattle.meter.specs.Refusals.{unnamedCode, unnamedSetting, impossible, openRules, chunkRules, blockCallRules}
-use Rattle.meter.specs.Reports.{margin, reportRules, noReport, reportAt}
+use Rattle.meter.specs.Reports.{reportRules, noReport, reportAt}
 use Rattle.meter.specs.Calls.{zeroMeter, openCall, chunkCall, blockCall, reportCall}
 use Rattle.meter.proofs.Possible.{Possible, falling}
 use Rattle.meter.proofs.Reported.{Levels, levels}
@@ -121,32 +122,32 @@ module _ (m : Meter) (z : reportCall m .number ≡ 0) where
   L : Levels m
   L = levels m z
 
-  upper-is : reportCall m .report .upper ≡ L .j
-  unfolding reportAt
-  upper-is = ap (λ (r : Report). r .upper) (L .report)
+  upper-is : reportCall m .report .levels .upper ≡ L .j
+  unfolding reportAt levelsAt
+  upper-is = ap (λ (r : Report). r .levels .upper) (L .report)
 
   count-exists : (i : ℕ) → i ≤ L .j → (1 ≤ getD (m .state .a) i 0) × (getD (m .state .a) i 0 ≤ 2 ^ 80)
   count-exists i h =
       let p = L .possible in (
-        le-trans (alive margin _ (m .state .a) (L .j) (L .crosses)) (falling m p i (L .j) h (L .below)),
+        le-trans (alive margin (number (m .state .sums .sq)) (m .state .a) (L .j) (L .crosses)) (falling m p i (L .j) h (L .below)),
         omega (arith, p .a-max i (lt-of-le-of-lt h (L .below)), p .n-max),
       )
 
   -- the numbers whose levels it takes, sq, n and each a_i up to the upper threshold, all have one
   pub level-exists : (1 ≤ number (m .state .sums .sq)) × (number (m .state .sums .sq) ≤ 2 ^ 80) × (1 ≤ m .state .sums .n) × (m .state .sums .n ≤ 2 ^ 80)
-      × ((i : ℕ) → i ≤ reportCall m .report .upper → (1 ≤ getD (m .state .a) i 0) × (getD (m .state .a) i 0 ≤ 2 ^ 80))
+      × ((i : ℕ) → i ≤ reportCall m .report .levels .upper → (1 ≤ getD (m .state .a) i 0) × (getD (m .state .a) i 0 ≤ 2 ^ 80))
   level-exists =
       let p = L .possible in
       (L .sq-pos, omega (arith, p .sq-max, p .n-max), L .n-pos, omega (arith, p .n-max), λ i h. count-exists i (subst (λ (j : ℕ). i ≤ j) upper-is h))
 
   cross : Crossed margin (number (m .state .sums .sq)) (m .state .a) (L .j)
   cross =
-      crossed margin _ (m .state .a) (L .j) (L .crosses)
+      crossed margin (number (m .state .sums .sq)) (m .state .a) (L .j) (L .crosses)
       (λ h. falling m (L .possible) (L .j - 1) (L .j) (omega arith) (L .below)) (count-exists (L .j - 1) (omega arith) .1)
 
   -- F is never above 0
-  pub factor-never-above : ltZ (pos 0) (reportCall m .report .factor .0) ≡ false
-  unfolding reportAt
+  pub factor-never-above : ltZ (pos 0) (reportCall m .report .levels .factor .0) ≡ false
+  unfolding reportAt levelsAt
   factor-never-above =
-      ap (λ (r : Report). ltZ (pos 0) (r .factor .0)) (L .report)
-      ∙ factor margin _ (m .state .sums .n) (m .state .a) (L .j) cross (L .possible .a-max (cross .i) (lt-of-le-of-lt (cross .reach) (L .below))) (level-exists .3)
+      ap (λ (r : Report). ltZ (pos 0) (r .levels .factor .0)) (L .report)
+      ∙ factor margin (number (m .state .sums .sq)) (m .state .sums .n) (m .state .a) (L .j) cross (L .possible .a-max (cross .i) (lt-of-le-of-lt (cross .reach) (L .below))) (level-exists .3)

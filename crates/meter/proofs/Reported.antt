@@ -11,15 +11,16 @@ use lib.Dec.{T, eqb, leb, ltb, lit≤}
 use lib.IntN.{ℤ, pos, negsuc}
 use lib.ListN.{getD}
 use lib.Signed.{ltZ}
-use Rattle.level.specs.Logarithm.{number}
+use Rattle.level.specs.Logarithm.{number, lev}
 use Rattle.refusal.specs.First.{firstOf}
 use Rattle.refusal.proofs.Laws.{cleared}
 use Rattle.meter.specs.declared.Meter.{Meter}
 use Rattle.crossing.specs.Levels.{excess}
 use Rattle.crossing.specs.Crossing.{isZero, isCrossing, crossing}
-use Rattle.crossing.proofs.Search.{Found, found, not-found}
+use Rattle.crossing.specs.Found.{margin, crossingIn, firstExcess}
+use Rattle.crossing.proofs.Lowest.{found, not-found}
 use Rattle.meter.specs.Refusals.{impossible}
-use Rattle.meter.specs.Reports.{margin, isNone, crossingOf, firstExcess, noSamples, noSignal, noActivity, levelBelow, levelAbove, reportRules, noReport, reportAt, reportFor}
+use Rattle.meter.specs.Reports.{isNone, crossingOf, firstOfMeter, noSamples, noSignal, noActivity, levelBelow, levelAbove, reportRules, noReport, reportAt, reportFor}
 use Rattle.meter.specs.Calls.{reportCall}
 use Rattle.meter.proofs.Possible.{Possible, possible}
 
@@ -50,7 +51,7 @@ pub record Levels (m : Meter) : Type 0 where
   pub sq-pos : 0 < number (m .state .sums .sq)
   pub j : ℕ
   pub below : j < 15
-  pub crosses : isCrossing margin (number (m .state .sums .sq)) (m .state .a) j ≡ true
+  pub crosses : isCrossing margin (pos (lev (number (m .state .sums .sq)))) (m .state .a) j ≡ true
   pub report : reportCall m .report ≡ reportAt m j
 
 -- with a_0 above 0 and d_0 neither below nor above 0, there is a crossing at 0
@@ -59,9 +60,9 @@ signs (pos zero) p q = refl
 signs (pos (suc n)) p q = absurd (omega (arith, ltb-false 0 (suc n) q))
 signs (negsuc n) p q = absurd (subst T p tt)
 
-first-crosses : (M sq : ℕ) (a : List ℕ) → 0 < getD a 0 0 → isZero (excess M sq a 0) ≡ true → isCrossing M sq a 0 ≡ true
+first-crosses : (M : ℕ) (S : ℤ) (a : List ℕ) → 0 < getD a 0 0 → isZero (excess M S a 0) ≡ true → isCrossing M S a 0 ≡ true
 unfolding isCrossing
-first-crosses M sq a p z = simp (lt-ltb 0 (getD a 0 0) p, z)
+first-crosses M S a p z = simp (lt-ltb 0 (getD a 0 0) p, z)
 
 positive : (n : ℕ) → eqb n 0 ≡ false → 0 < n
 positive zero e = absurd (eqb-false 0 0 e refl)
@@ -82,14 +83,14 @@ module _ (m : Meter) (z : reportCall m .number ≡ 0) where
 
   -- so a crossing was found
   crossing-found : (o : Option ℕ) → crossingOf m ≡ o → (j : ℕ) × (crossingOf m ≡ some j)
-  unfolding levelBelow levelAbove noActivity crossingOf crossing firstExcess
+  unfolding levelBelow levelAbove noActivity crossingOf crossingIn crossing firstOfMeter firstExcess
   crossing-found (some j) e = (j, e)
   crossing-found none e =
-      let d = firstExcess m in
+      let d = firstOfMeter m in
       let below : ltZ d (pos 0) ≡ false = sym (ap (λ (o : Option ℕ). isNone o && ltZ d (pos 0)) e) ∙ passed .4 in
       let above : ltZ (pos 0) d ≡ false = sym (ap (λ (o : Option ℕ). isNone o && ltZ (pos 0) d) e) ∙ passed .5 in
-      let yes = first-crosses margin (number (m .state .sums .sq)) (m .state .a) (positive _ (passed .3)) (signs d below above) in
-      let no = not-found (isCrossing margin (number (m .state .sums .sq)) (m .state .a)) 0 15 e 0 (omega arith) (omega arith) in
+      let yes = first-crosses margin (pos (lev (number (m .state .sums .sq)))) (m .state .a) (positive _ (passed .3)) (signs d below above) in
+      let no = not-found (isCrossing margin (pos (lev (number (m .state .sums .sq)))) (m .state .a)) 0 15 e 0 (omega arith) (omega arith) in
       absurd (subst T (sym yes ∙ no) tt)
 
   report-is : (j : ℕ) → crossingOf m ≡ some j → reportCall m .report ≡ reportAt m j
@@ -98,10 +99,10 @@ module _ (m : Meter) (z : reportCall m .number ≡ 0) where
       ap (λ (r : ℕ). cond (eqb r 0) (reportFor m (crossingOf m)) noReport) z ∙ ap (reportFor m) e
 
   pub levels : Levels m
-  unfolding noSamples noSignal crossingOf crossing
+  unfolding noSamples noSignal crossingOf crossingIn crossing
   levels =
       let c = crossing-found (crossingOf m) refl in
-      let f = found (isCrossing margin (number (m .state .sums .sq)) (m .state .a)) 0 15 (c .0) (c .1) in
+      let f = found (isCrossing margin (pos (lev (number (m .state .sums .sq)))) (m .state .a)) 0 15 (c .0) (c .1) in
       record {
         possible = possible m (passed .0);
         n-pos = positive _ (passed .1);

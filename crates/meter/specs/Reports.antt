@@ -1,29 +1,20 @@
 -- The report on a meter: document 01, "The report", and its refusals.
-use mathlib.Core.Bool.{Bool, true, false, cond, _&&_}
+use mathlib.Core.Bool.{Bool, true, false, _&&_}
 use mathlib.Core.List.{List, [], _∷_, map}
 use mathlib.Core.Option.{Option, none, some}
 use Prim.Native.Nat.{ℕ}
 use lib.Dec.{eqb}
-use lib.IntN.{ℤ, pos, _-ℤ_}
+use lib.IntN.{ℤ, pos}
 use lib.ListN.{getD}
 use lib.Signed.{ltZ}
 use Rattle.level.specs.Logarithm.{number}
 use Rattle.level.specs.declared.Samples.{Samples}
-use Rattle.level.specs.declared.Steps.{Steps}
-use Rattle.refusal.specs.First.{Rule, firstOf}
+use Rattle.refusal.specs.First.{Rule}
 use Rattle.meter.specs.declared.Meter.{Meter}
 use Rattle.sample.specs.Sample.{fifteen, words}
-use Rattle.crossing.specs.Levels.{longTerm, excess}
-use Rattle.crossing.specs.Crossing.{crossing, lowerOf, upperOf, activeLevel}
+use Rattle.crossing.specs.Found.{levelsAt, noLevels, crossingIn, firstExcess}
 use Rattle.meter.specs.declared.Report.{Report}
 use Rattle.meter.specs.Refusals.{impossible}
-
--- M, 15.9 dB
-abbrev pub margin : ℕ
-margin = 21635
-
-abbrev pub steps : ℤ → Steps
-steps x = record { 0 = x }
 
 abbrev pub samplesOf : ℕ → Samples
 samplesOf n = record { 0 = n }
@@ -34,10 +25,10 @@ isNone (some j) = false
 
 -- the crossing of a meter, and d_0
 unfoldable pub crossingOf : Meter → Option ℕ
-crossingOf m = crossing margin (number (m .state .sums .sq)) (m .state .a)
+crossingOf m = crossingIn (number (m .state .sums .sq)) (m .state .a)
 
-unfoldable pub firstExcess : Meter → ℤ
-firstExcess m = excess margin (number (m .state .sums .sq)) (m .state .a) 0
+unfoldable pub firstOfMeter : Meter → ℤ
+firstOfMeter m = firstExcess (number (m .state .sums .sq)) (m .state .a)
 
 -- 12: n = 0
 unfoldable pub noSamples : Meter → Bool
@@ -53,11 +44,11 @@ noActivity m = eqb (getD (m .state .a) 0 0) 0
 
 -- 15: no crossing and d_0 < 0
 unfoldable pub levelBelow : Meter → Bool
-levelBelow m = isNone (crossingOf m) && ltZ (firstExcess m) (pos 0)
+levelBelow m = isNone (crossingOf m) && ltZ (firstOfMeter m) (pos 0)
 
 -- 16: no crossing and d_0 > 0
 unfoldable pub levelAbove : Meter → Bool
-levelAbove m = isNone (crossingOf m) && ltZ (pos 0) (firstExcess m)
+levelAbove m = isNone (crossingOf m) && ltZ (pos 0) (firstOfMeter m)
 
 unfoldable pub reportRules : Meter → List Rule
 reportRules m =
@@ -71,37 +62,18 @@ reportRules m =
 
 -- no report: all its fields are zero
 unfoldable pub noReport : Report
-noReport =
-    record {
-      n = samplesOf 0;
-      s = pos 0;
-      sq = words 0;
-      a = map samplesOf (fifteen (λ j. 0));
-      level = steps (pos 0);
-      active = steps (pos 0);
-      threshold = steps (pos 0);
-      factor = steps (pos 0);
-      lower = 0;
-      upper = 0;
-    }
+noReport = record { n = samplesOf 0; s = pos 0; sq = words 0; a = map samplesOf (fifteen (λ j. 0)); levels = noLevels }
 
--- the report at a crossing j: C = A − M, F = L − A
+-- the report at a crossing j
 unfoldable pub reportAt : Meter → ℕ → Report
 reportAt m j =
-    let sq = number (m .state .sums .sq) in
-    let L = longTerm sq (m .state .sums .n) in
-    let A = activeLevel margin sq (m .state .a) j in
+    let sums = m .state .sums in
     record {
-      n = samplesOf (m .state .sums .n);
-      s = m .state .sums .s;
-      sq = m .state .sums .sq;
+      n = samplesOf (sums .n);
+      s = sums .s;
+      sq = sums .sq;
       a = map samplesOf (m .state .a);
-      level = steps L;
-      active = steps A;
-      threshold = steps (A -ℤ pos margin);
-      factor = steps (L -ℤ A);
-      lower = lowerOf margin sq (m .state .a) j;
-      upper = upperOf j;
+      levels = levelsAt (sums .n) (number (sums .sq)) (m .state .a) j;
     }
 
 -- the report at what the search for a crossing found

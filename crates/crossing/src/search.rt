@@ -1,0 +1,4 @@
+pub enum Place {
+    At(usize),
+    Nowhere,
+}
