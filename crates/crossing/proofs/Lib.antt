@@ -1,3 +1,6 @@
 pub mod Bounds
 mod Differences
-pub mod Lowest
+mod Interpolated
+pub mod Searching
+mod Sizes
+mod Words

@@ -1,8 +1,19 @@
 // The levels of a report (document 01, "The report"): the crossing, and the active level at it.
-mod search;
+mod interpolation;
+mod lowest;
+mod steps;
 
+ghost use mathlib.Core.Path.{_≡_};
+ghost use Rattle.level.specs.Logarithm.{number};
+ghost use Rattle.crossing.specs.Found.{said, searched};
+ghost use Rattle.crossing.specs.Inner.{Measured};
+use crate::lowest::Place;
+use level::Samples;
+use level::Squares;
 use level::Steps;
 
+// The long-term level L, the active level A, the threshold C and the activity factor F, in steps;
+// the lower and the upper threshold of the crossing.
 pub struct Levels {
     pub level: Steps,
     pub active: Steps,
@@ -12,8 +23,41 @@ pub struct Levels {
     pub upper: u64,
 }
 
+// What the search for a crossing finds: levels; or no crossing, with the first difference below 0,
+// or above it.
 pub enum Found {
     At(Levels),
     Below,
     Above,
+}
+
+// The levels of n samples with the sum of squares sq and the activity counts a.
+pub fn find_levels(n: Samples, sq: Squares, a: &[u64; 15]) -> Found
+    requires { ⌜ Measured (n .0) (number sq) (now a) ⌝ }
+    ensures { λ r. ⌜ said r ≡ searched (n .0) (number sq) (now (a .entry)) ⌝ }
+{
+    let power = steps::of_squares(sq);
+    match lowest::crossing(power, a) {
+        Place::At(j) => {
+            let level = steps::minus(power, steps::of_count(n.0));
+            let at = interpolation::at_crossing(power, a, j);
+            let active = at.level;
+            Found::At(Levels {
+                level,
+                active,
+                threshold: steps::minus(active, Steps(21635)),
+                factor: steps::minus(level, active),
+                lower: at.lower as u64,
+                upper: j as u64,
+            })
+        }
+        Place::Nowhere => {
+            let first = steps::excess(power, a[0], 0);
+            if first.0 < 0 {
+                Found::Below
+            } else {
+                Found::Above
+            }
+        }
+    }
 }

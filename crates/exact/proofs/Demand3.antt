@@ -45,10 +45,10 @@ module _ (m : Meter) (e : E) (g : Good m e) (L : Levels m) where
   few : (j : ℕ) → j < 15 → getD (m .state .a) j 0 ≤ 2 ^ 80
   few j l = omega (arith, g .tied .each j l .few, g .few)
 
-  cross : Crossed margin sq (m .state .a) (L .j)
+  cross : Crossed margin (lev sq) (m .state .a) (L .j)
   unfolding sq
   cross =
-      crossed margin (number (m .state .sums .sq)) (m .state .a) (L .j) (L .crosses)
+      crossed margin (lev (number (m .state .sums .sq))) (m .state .a) (L .j) (L .crosses)
       (λ h. falling m (good-possible m e g) (L .j - 1) (L .j) (omega arith) (L .below))
       (few (L .j - 1) (omega (arith, L .below)))
 

@@ -23,7 +23,8 @@ use Rattle.sample.proofs.Activity.{Under, under-refl, under-step, counted-le, h
 use Rattle.sample.proofs.Envelope.{smooth-le}
 use Rattle.sample.proofs.Fifteen.{fifteen-at}
 use Rattle.sample.proofs.Kept.{number-words}
-use Rattle.sample.proofs.Signs.{small, abs-sum}
+use Rattle.sample.proofs.Signs.{small}
+use Rattle.signed.proofs.Sizes.{abs-sum}
 use Rattle.exact.specs.Exact.{E, startAt, reaches, countNext, hangoverNext, take, takeAll}
 use Rattle.rate.specs.Rates.{Ceiling}
 use Rattle.exact.specs.Demands.{envelopeAfter, exactEnvelopeAfter, EnvelopeBound}

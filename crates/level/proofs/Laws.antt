@@ -1,15 +1,20 @@
 -- The three facts about lev: `facts`, by which the crates above know it. The place of the highest one bit and the start m bound n on both sides,
 -- and the squarings carry both bounds to n^4096.
+use mathlib.Core.Option.{none, some}
 use mathlib.Core.Path.{_≡_, refl, sym, ap, _∙_, subst}
 use mathlib.Core.Bool.{Bool, true, false, cond}
 use Prim.Native.Nat.{ℕ, zero, suc, _+_, _*_, _/_, _^_, _≤_, _<_}
 use native.Mathlib.Nat.{le-trans, le-of-eq, le-antisymm, le-of-suc-le-suc, lt-of-le-of-lt, lt-of-lt-of-le, lt-of-not-le, not-le-of-lt, mul-le-mul-left, mul-le-mul-right, mul-lt-mul-of-pos-right, le-of-mul-le-mul-right, lt-of-mul-lt-mul-right, one-le-pow, pow-le-pow-left, pow-suc, mul-assoc, mul-comm, div-mul-le-self, lt-div-mul-add, le-div-iff-mul-le, div-lt-iff-lt-mul}
 use native.Mathlib.Omega.{arith}
 use native.Mathlib.Decide.{decLe}
-use borrow.Author.Tests.{leb-true, leb-false}
+use borrow.Author.Tests.{leb-true, leb-false, le-leb}
 use lib.Dec.{leb}
+use lib.IntN.{pos}
 use lib.Pow.{pow-add, pow-pos, pow-mono, shr-mono}
-use Rattle.level.specs.Logarithm.{placeUpTo, place, spell, start, lev, Facts}
+use Rattle.level.specs.Logarithm.{placeUpTo, place, spell, start, lev, levelOf, valueOf, Facts}
+use Rattle.level.specs.declared.Level.{Level}
+use Rattle.level.specs.declared.Level.the-variants.{At, None}
+use Rattle.level.specs.declared.Steps.{Steps}
 use Rattle.level.proofs.Powers.{mul-pow, pow-mul}
 use Rattle.level.proofs.Squarings.{low, up, spell-lt, spell-mono}
 
@@ -153,3 +158,20 @@ never-falls m n h l u = go (decLe (place n) (place m))
 
 pub facts : Facts lev
 facts = record { never-falls = never-falls; at-most = λ n h u. at-most n h; less-than = λ n h u. less-than n u }
+
+-- ---- what an answer tells its caller
+
+answered : (n : ℕ) → 1 ≤ n → n ≤ 2 ^ 80 → levelOf n ≡ some (pos (lev n))
+unfolding levelOf
+answered n h u = simp (le-leb 1 n h, le-leb n (2 ^ 80) u)
+
+pub level-read : (n : ℕ) (r : Level) (s : Steps) → 1 ≤ n → n ≤ 2 ^ 80 → valueOf r ≡ levelOf n → r ≡ At s → s .0 ≡ pos (lev n)
+unfolding valueOf
+level-read n r s h u e f = let q : some (s .0) ≡ some (pos (lev n)) = sym (ap valueOf f) ∙ e ∙ answered n h u in cc
+
+pub level-some : (n : ℕ) (r : Level) → 1 ≤ n → n ≤ 2 ^ 80 → valueOf r ≡ levelOf n → r ≡ None → ⊥
+unfolding valueOf
+level-some n r h u e f =
+    let q : none ≡ some (pos (lev n)) = sym (ap valueOf f) ∙ e ∙ answered n h u in
+    let z : _≡_ {A = ℕ} 0 1 = cc in
+    omega arith

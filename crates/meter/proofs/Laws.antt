@@ -12,7 +12,7 @@ use lib.Dec.{eqb}
 use lib.IntN.{ℤ, pos}
 use lib.ListN.{getD}
 use lib.Signed.{ltZ}
-use Rattle.level.specs.Logarithm.{number}
+use Rattle.level.specs.Logarithm.{number, lev}
 use Rattle.rate.proofs.Laws.{zero-unnamed}
 use Rattle.refusal.specs.First.{Rule, firstOf, applies, rising}
 use Rattle.refusal.proofs.Laws.{here, lowest, only-where}
@@ -129,7 +129,7 @@ module _ (m : Meter) (z : reportCall m .number ≡ 0) where
   count-exists : (i : ℕ) → i ≤ L .j → (1 ≤ getD (m .state .a) i 0) × (getD (m .state .a) i 0 ≤ 2 ^ 80)
   count-exists i h =
       let p = L .possible in (
-        le-trans (alive margin (number (m .state .sums .sq)) (m .state .a) (L .j) (L .crosses)) (falling m p i (L .j) h (L .below)),
+        le-trans (alive margin (pos (lev (number (m .state .sums .sq)))) (m .state .a) (L .j) (L .crosses)) (falling m p i (L .j) h (L .below)),
         omega (arith, p .a-max i (lt-of-le-of-lt h (L .below)), p .n-max),
       )
 
@@ -140,9 +140,9 @@ module _ (m : Meter) (z : reportCall m .number ≡ 0) where
       let p = L .possible in
       (L .sq-pos, omega (arith, p .sq-max, p .n-max), L .n-pos, omega (arith, p .n-max), λ i h. count-exists i (subst (λ (j : ℕ). i ≤ j) upper-is h))
 
-  cross : Crossed margin (number (m .state .sums .sq)) (m .state .a) (L .j)
+  cross : Crossed margin (lev (number (m .state .sums .sq))) (m .state .a) (L .j)
   cross =
-      crossed margin (number (m .state .sums .sq)) (m .state .a) (L .j) (L .crosses)
+      crossed margin (lev (number (m .state .sums .sq))) (m .state .a) (L .j) (L .crosses)
       (λ h. falling m (L .possible) (L .j - 1) (L .j) (omega arith) (L .below)) (count-exists (L .j - 1) (omega arith) .1)
 
   -- F is never above 0

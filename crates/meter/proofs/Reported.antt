@@ -18,7 +18,7 @@ use Rattle.meter.specs.declared.Meter.{Meter}
 use Rattle.crossing.specs.Levels.{excess}
 use Rattle.crossing.specs.Crossing.{isZero, isCrossing, crossing}
 use Rattle.crossing.specs.Found.{margin, crossingIn, firstExcess}
-use Rattle.crossing.proofs.Lowest.{found, not-found}
+use Rattle.crossing.proofs.Searching.{found, not-found}
 use Rattle.meter.specs.Refusals.{impossible}
 use Rattle.meter.specs.Reports.{isNone, crossingOf, firstOfMeter, noSamples, noSignal, noActivity, levelBelow, levelAbove, reportRules, noReport, reportAt, reportFor}
 use Rattle.meter.specs.Calls.{reportCall}

@@ -12,7 +12,8 @@ use Rattle.sample.specs.Envelope.{smooth, rectified}
 use Rattle.sample.specs.Sample.{words, summed}
 use Rattle.sample.specs.Runs.{BoundedSums}
 use Rattle.sample.proofs.Envelope.{smooth-le}
-use Rattle.sample.proofs.Signs.{small, abs-sum}
+use Rattle.signed.proofs.Sizes.{abs-sum}
+use Rattle.sample.proofs.Signs.{small}
 
 pub number-words : (N : ℕ) → number (words N) ≡ N
 unfolding words

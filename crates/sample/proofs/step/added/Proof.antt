@@ -5,7 +5,8 @@ use lib.IntN.{ℤ, _+ℤ_}
 use mir.Syntax.{w16, w64}
 use mir.Val.{SFits, toZ, ofZ}
 use mir.Facts.{toZ-ofZ, sfits-widen}
-use Rattle.sample.proofs.Signs.{wide, mag-sum}
+use Rattle.signed.proofs.Sizes.{mag-sum}
+use Rattle.sample.proofs.Signs.{wide}
 use Rattle.sample.proofs.step.added.Statement.{statement}
 use Rattle.sample.proofs.step.added.Tie as tie
 

@@ -44,3 +44,18 @@ not-found f j (suc k) e i l h = go (f j) refl e (λ n s. not-found f (j + 1) k n
     go : (t : Bool) → f j ≡ t → cond t (some j) (lowestFrom f (j + 1) k) ≡ none → (lowestFrom f (j + 1) k ≡ none → j + 1 ≤ i → f i ≡ false) → f i ≡ false
     go true q n rest = let z : _≡_ {A = ℕ} 0 1 = cc in absurd (omega arith)
     go false q n rest = ⊎-elim (λ s. ap f (sym s) ∙ q) (λ s. rest n (omega arith)) (eq-or-lt-of-le l)
+
+-- ---- one place at a time
+
+pub here : (f : ℕ → Bool) (j k : ℕ) → f j ≡ true → lowestFrom f j (suc k) ≡ some j
+unfolding lowestFrom
+here f j k e = simp e
+
+pub past : (f : ℕ → Bool) (j k : ℕ) → f j ≡ false → lowestFrom f j (suc k) ≡ lowestFrom f (j + 1) k
+unfolding lowestFrom
+past f j k e = simp e
+
+pub nowhere : (f : ℕ → Bool) (j k : ℕ) → ((i : ℕ) → j ≤ i → i < j + k → f i ≡ false) → lowestFrom f j k ≡ none
+unfolding lowestFrom
+nowhere f j zero h = refl
+nowhere f j (suc k) h = past f j k (h j (omega arith) (omega arith)) ∙ nowhere f (j + 1) k (λ i l u. h i (omega arith) (omega arith))

@@ -1,4 +1,0 @@
-pub enum Place {
-    At(usize),
-    Nowhere,
-}
