@@ -32,9 +32,9 @@ pub enum Refusal {
     NoSignal,
     // 14: the envelope never came up to the lowest threshold
     NoActivity,
-    // 15: no crossing, since the level starts below the margin over the lowest threshold
+    // 15: no crossing, and the level at the lowest threshold is less than the margin above it
     NoCrossingBelow,
-    // 16: no crossing, since the level stays above the margin over every threshold reached
+    // 16: no crossing, and the level at the lowest threshold is more than the margin above it
     NoCrossingAbove,
 }
 
