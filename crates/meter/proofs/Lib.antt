@@ -1,3 +1,6 @@
+mod Below
+mod Chains
 pub mod Laws
 pub mod Possible
 pub mod Reported
+mod Words

@@ -13,6 +13,7 @@ use Rattle.level.specs.Logarithm.{number}
 use Rattle.rate.specs.Rates.{isNamed}
 use Rattle.meter.specs.declared.Meter.{Meter}
 use Rattle.meter.specs.Settings.{iOf}
+use Rattle.meter.proofs.Below.{none-below, each-below, neither}
 use Rattle.meter.specs.Refusals.{someBelow, unnamedCode, unnamedSetting, manySamples, largeSum, largeSquares, largeEnvelope, longHangover, largeCount, risingCounts, fallingHangovers, impossible}
 
 pub record Possible (m : Meter) : Type 0 where
@@ -26,24 +27,6 @@ pub record Possible (m : Meter) : Type 0 where
   pub a-max : (j : ℕ) → j < 15 → getD (m .state .a) j 0 ≤ m .state .sums .n
   pub a-falls : (j : ℕ) → j < 14 → getD (m .state .a) (j + 1) 0 ≤ getD (m .state .a) j 0
   pub h-rises : (j : ℕ) → j < 14 → getD (m .state .h) j 0 ≤ getD (m .state .h) (j + 1) 0
-
--- ---- some place below k, and none
-
-pub none-below : (k : ℕ) (f : ℕ → Bool) → ((j : ℕ) → j < k → f j ≡ false) → someBelow k f ≡ false
-unfolding someBelow
-none-below zero f h = refl
-none-below (suc k) f h = simp (none-below k f (λ j l. h j (lt-of-lt-of-le l (le-suc k))), h k (omega arith))
-
-neither : (x y : Bool) → x || y ≡ false → (x ≡ false) × (y ≡ false)
-neither true y h = absurd (subst T h tt)
-neither false y h = (refl, h)
-
-pub each-below : (k : ℕ) (f : ℕ → Bool) → someBelow k f ≡ false → (j : ℕ) → j < k → f j ≡ false
-unfolding someBelow
-each-below zero f h j l = absurd (not-suc-le-zero l)
-each-below (suc k) f h j l =
-    let n = neither (someBelow k f) (f k) h in
-    ⊎-elim (λ e. ap f e ∙ n .1) (λ s. each-below k f (n .0) j s) (eq-or-lt-of-le (le-of-suc-le-suc l))
 
 -- ---- from the facts to the tests
 

@@ -1,4 +1,5 @@
 pub mod Calls
+pub mod Inner
 pub mod Refusals
 pub mod Reports
 pub mod Settings

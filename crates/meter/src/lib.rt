@@ -1,5 +1,7 @@
 // The meter's calls (document 01, "One sample", "The report" and "Why a call is refused"): what each
 // hands back.
+mod usable;
+
 use crossing::Levels;
 use level::Samples;
 use level::Squares;
