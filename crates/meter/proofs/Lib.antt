@@ -1,5 +1,6 @@
 mod Below
 mod Chains
+mod Handing
 pub mod Laws
 pub mod Possible
 pub mod Reported

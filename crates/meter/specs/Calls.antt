@@ -6,6 +6,8 @@ use lib.Dec.{eqb}
 use lib.IntN.{ℤ}
 use Rattle.refusal.specs.First.{firstOf}
 use Rattle.block.specs.Block.{samples as samplesIn}
+use Rattle.refusal.specs.Number.{numberGiven}
+use Rattle.meter.specs.declared.Fed.{Fed}
 use Rattle.meter.specs.declared.Meter.{Meter}
 use Rattle.meter.specs.declared.Setting.{Setting}
 use Rattle.sample.specs.Sample.{freshState, samples}
@@ -25,6 +27,10 @@ pub record HandedReport : Type 0 where
   pub meter : Meter
   pub report : Report
 
+-- what an answer of the code says
+unfoldable pub handedBy : Fed → Handed
+handedBy f = record { number = numberGiven (f .answer); meter = f .meter }
+
 -- the fresh meter: that setting, each h_j = I, all else zero
 unfoldable pub fresh : Setting → Meter
 fresh c = record { setting = c; state = freshState (iOf c) }
@@ -38,7 +44,7 @@ unfoldable pub afterSamples : Meter → List ℤ → Meter
 afterSamples m xs = record { setting = m .setting; state = samples (kOf (m .setting)) (iOf (m .setting)) (m .state) xs }
 
 -- a call that is accepted where the number is 0 hands back the first meter, else the second
-abbrev handed : ℕ → Meter → Meter → Handed
+abbrev pub handed : ℕ → Meter → Meter → Handed
 handed r accepted refused = record { number = r; meter = cond (eqb r 0) accepted refused }
 
 unfoldable pub openCall : Setting → Handed

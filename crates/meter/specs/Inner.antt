@@ -1,17 +1,24 @@
 -- What the functions inside this crate promise one another. Nothing here is part of what a meter promises.
-use mathlib.Core.Bool.{Bool, cond, _||_}
+use mathlib.Core.Bool.{Bool, false, cond, _||_}
+use mathlib.Core.List.{List, [], _∷_}
 use mathlib.Core.Option.{Option, none}
-use Prim.Native.Nat.{ℕ, _+_, _*_, _^_}
+use mathlib.Core.Path.{_≡_}
+use Prim.Native.Nat.{ℕ, _+_, _*_, _^_, _≤_}
 use lib.Dec.{ltb}
-use lib.IntN.{natAbs}
-use lib.ListN.{getD}
+use lib.IntN.{ℤ, natAbs}
+use lib.ListN.{length, getD}
 use Rattle.level.specs.Logarithm.{number}
 use Rattle.rate.specs.declared.Rate.{Rate}
 use Rattle.rate.specs.Rates.{rateOf}
 use Rattle.sample.specs.declared.State.{State}
 use Rattle.sample.specs.declared.Sums.{Sums}
 use Rattle.meter.specs.declared.Meter.{Meter}
-use Rattle.meter.specs.Refusals.{someBelow, impossible}
+use Rattle.meter.specs.Refusals.{someBelow, impossible, tooMany}
+use Rattle.meter.specs.Calls.{Handed, handed, afterSamples}
+use Rattle.meter.specs.Settings.{kOf, iOf}
+use Rattle.meter.specs.declared.Setting.{Setting}
+use Rattle.refusal.specs.First.{firstOf}
+use Rattle.sample.specs.Sample.{freshState}
 
 -- the rate of a meter that refusal 2 lets pass
 unfoldable pub usableRate : Meter → Option Rate
@@ -29,3 +36,22 @@ wrongCounters I m =
     || (someBelow 15 (λ j. ltb (m .sums .n) (getD (m .a) j 0))
     || (someBelow 14 (λ j. ltb (getD (m .a) j 0) (getD (m .a) (j + 1) 0))
     || someBelow 14 (λ j. ltb (getD (m .h) (j + 1) 0) (getD (m .h) j 0))))
+
+-- the meter that has taken no sample, with any I
+unfoldable pub freshAt : Setting → (I : ℕ) → Meter
+freshAt c I = record { setting = c; state = freshState I }
+
+-- a meter, with its K and I, that new samples may be given to
+pub record Ready (m : Meter) (K I new : ℕ) : Type 0 where
+  pub possible : impossible m ≡ false
+  pub k-is : kOf (m .setting) ≡ K
+  pub i-is : iOf (m .setting) ≡ I
+  pub few : new ≤ 4096
+
+-- what a call hands back, refused with a number
+abbrev pub refusedWith : ℕ → Meter → Handed
+refusedWith k m = record { number = k; meter = m }
+
+-- and where only refusal 11 can apply
+unfoldable pub takenBy : Meter → List ℤ → Handed
+takenBy m xs = handed (firstOf ((11, tooMany m (length xs)) ∷ [])) (afterSamples m xs) m

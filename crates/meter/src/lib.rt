@@ -1,10 +1,13 @@
 // The meter's calls (document 01, "One sample", "The report" and "Why a call is refused"): what each
 // hands back.
+mod feeding;
+mod opening;
 mod usable;
 
 use crossing::Levels;
 use level::Samples;
 use level::Squares;
+use refusal::Answer;
 use sample::State;
 
 // What is chosen when a meter is opened.
@@ -25,4 +28,10 @@ pub struct Report {
     pub sq: Squares,
     pub a: [Samples; 15],
     pub levels: Levels,
+}
+
+// What a call hands back: its answer, and the meter.
+pub struct Fed {
+    pub answer: Answer,
+    pub meter: Meter,
 }

@@ -1,10 +1,13 @@
 -- Lists made from a function: what stands at each place.
-use mathlib.Core.List.{_∷_}
+use mathlib.Core.Bool.{Bool, true, false}
+use mathlib.Core.List.{List, _∷_}
 use mathlib.Core.Path.{_≡_, refl, sym, ap, ap₂, _∙_}
-use Prim.Native.Nat.{ℕ, zero, suc, _+_, _<_}
+use Prim.Native.Nat.{ℕ, zero, suc, _+_, _≤_, _<_}
 use native.Mathlib.Nat.{add-zero, le-of-suc-le-suc, not-suc-le-zero, zero-add}
 use native.Mathlib.Omega.{arith}
-use lib.ListN.{length, getD}
+use borrow.Author.Tests.{ltb-true, ltb-false}
+use lib.Dec.{ltb}
+use lib.ListN.{length, getD, List·getD-eq-default}
 use Rattle.sample.specs.Sample.{listFrom, fifteen}
 
 list-length : (f : ℕ → ℕ) (j k : ℕ) → length (listFrom f j k) ≡ k
@@ -34,3 +37,11 @@ list-same f g e j (suc k) = ap₂ _∷_ (e j) (list-same f g e (j + 1) k)
 pub fifteen-same : (f g : ℕ → ℕ) → ((i : ℕ) → f i ≡ g i) → fifteen f ≡ fifteen g
 unfolding fifteen
 fifteen-same f g e = list-same f g e 0 15
+
+-- past its end a list reads 0
+pub at-or-past : (l : List ℕ) (b : ℕ) → length l ≡ 15 → ((j : ℕ) → j < 15 → getD l j 0 ≤ b) → (j : ℕ) → getD l j 0 ≤ b
+at-or-past l b e f j = go (ltb j 15) refl
+  where
+    go : (t : Bool) → ltb j 15 ≡ t → getD l j 0 ≤ b
+    go true h = f j (ltb-true j 15 h)
+    go false h = let past : length l ≤ j = omega (arith, ltb-false j 15 h) in omega (arith, List·getD-eq-default l 0 past)

@@ -8,13 +8,13 @@ use native.Mathlib.Nat.{add-zero, le-trans, lt-of-lt-of-le, le-total}
 use native.Mathlib.Omega.{arith}
 use borrow.Author.Tests.{ltb-true, ltb-false, le-leb, lt-leb, lt-ltb, le-ltb}
 use lib.Dec.{leb, ltb}
-use lib.ListN.{length, getD, List·getD-eq-default}
+use lib.ListN.{length, getD}
 use Rattle.sample.specs.Activity.{counted, hung}
 use Rattle.sample.specs.Envelope.{threshold}
 use Rattle.sample.specs.Sample.{fifteen, counts, hangovers}
 use Rattle.sample.specs.Runs.{countOver, hangoverOver, countsOver, hangoversOver, Clear}
 use Rattle.sample.proofs.Activity.{counted-le, hung-le}
-use Rattle.sample.proofs.Fifteen.{fifteen-length, fifteen-at, fifteen-same}
+use Rattle.sample.proofs.Fifteen.{at-or-past, fifteen-length, fifteen-at, fifteen-same}
 
 -- ---- on: every sample counts
 
@@ -101,14 +101,6 @@ unfolding countsOver countOver counts
 counts-at I Q zero a h j l = refl
 counts-at I Q (suc d) a h j l =
     fifteen-at _ j l ∙ ap₂ (counted I (leb (threshold j) Q)) (counts-at I Q d a h j l) (hangovers-at I Q d h j l)
-
--- past its end a list reads 0
-at-or-past : (l : List ℕ) (b : ℕ) → length l ≡ 15 → ((j : ℕ) → j < 15 → getD l j 0 ≤ b) → (j : ℕ) → getD l j 0 ≤ b
-at-or-past l b e f j = go (ltb j 15) refl
-  where
-    go : (t : Bool) → ltb j 15 ≡ t → getD l j 0 ≤ b
-    go true h = f j (ltb-true j 15 h)
-    go false h = let past : length l ≤ j = omega (arith, ltb-false j 15 h) in omega (arith, List·getD-eq-default l 0 past)
 
 pub counts-max : (I Q d n : ℕ) (a h : List ℕ) → 15 ≡ length a → ((j : ℕ) → getD a j 0 ≤ n) → (j : ℕ) → getD (countsOver I Q d a h) j 0 ≤ n + d
 counts-max I Q d n a h e f =

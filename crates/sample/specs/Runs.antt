@@ -21,7 +21,13 @@ pub record BoundedSums (m : Sums) : Type 0 where
   pub p-max : m .p ≤ 2 ^ 40
   pub q-max : m .q ≤ 2 ^ 40
 
--- and a whole state
+-- a state that samples can be added to
+pub record Within (I : ℕ) (m : State) : Type 0 where
+  pub sums : BoundedSums (m .sums)
+  pub a-max : (j : ℕ) → j < 15 → getD (m .a) j 0 ≤ m .sums .n
+  pub h-max : (j : ℕ) → j < 15 → getD (m .h) j 0 ≤ I
+
+-- the same at every place, where past its end a list reads 0
 pub record Bounded (I : ℕ) (m : State) : Type 0 where
   pub sums : BoundedSums (m .sums)
   pub a-max : (j : ℕ) → getD (m .a) j 0 ≤ m .sums .n

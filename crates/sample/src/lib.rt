@@ -12,7 +12,7 @@ ghost use mathlib.Core.Path.{_≡_};
 ghost use Prim.Native.Nat.{_+_, _≤_, _<_, _^_};
 ghost use lib.ListN.{length};
 ghost use Rattle.sample.specs.Sample.{samples};
-ghost use Rattle.sample.specs.Runs.{Bounded};
+ghost use Rattle.sample.specs.Runs.{Within};
 use level::Squares;
 
 // n, s, sq, P and Q.
@@ -34,7 +34,7 @@ pub struct State {
 impl State {
     // The state after samples in order, at a rate's K and I.
     pub fn after(self, k: u64, i: u64, xs: &[i16]) -> State
-        requires { ⌜ Bounded i self ⌝ }
+        requires { ⌜ Within i self ⌝ }
         requires { ⌜ (k ≤ 2 ^ 20) × (self .sums .n + length (now xs) ≤ 2 ^ 48) ⌝ }
         ensures { λ r. ⌜ r ≡ samples k i self (now (xs .entry)) ⌝ }
     {

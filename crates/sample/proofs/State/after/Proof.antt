@@ -13,6 +13,7 @@ use mir.Facts.{toZ-ofZ}
 use Rattle.sample.specs.declared.State.{State}
 use Rattle.sample.specs.Sample.{summed, samples}
 use Rattle.sample.specs.Runs.{BoundedSums, stateOf}
+use Rattle.sample.proofs.Fifteen.{at-or-past}
 use Rattle.sample.proofs.Kept.{sums-kept}
 use Rattle.sample.proofs.Ran.{Turning, room-left, count-room, turned}
 use Rattle.sample.proofs.State.after.Statement.{statement}
@@ -61,7 +62,11 @@ loop-holds c =
     record {
       within = omega arith;
       rest = refl;
-      bounded = s .pre .0;
+      bounded = record {
+        sums = s .pre .0 .sums;
+        a-max = at-or-past (s .args .self .a) (s .args .self .sums .n) (search needs) (s .pre .0 .a-max);
+        h-max = at-or-past (s .args .self .h) (s .args .i) (search needs) (s .pre .0 .h-max);
+      };
       total = omega arith;
       a-length = sym (search needs);
       h-length = sym (search needs);

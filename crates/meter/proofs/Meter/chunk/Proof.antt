@@ -1,0 +1,79 @@
+-- One rule after another, left at the first that applies.
+use borrow.Author.Needs.{needs}
+use borrow.Author.Tests.{lt-ltb, le-ltb}
+use mathlib.Core.Bool.{true, false, not}
+use mathlib.Core.List.{[], _∷_}
+use mathlib.Core.Option.{some}
+use mathlib.Core.Path.{_≡_, refl, sym, ap, _∙_, subst}
+use Prim.Native.Nat.{ℕ, _+_, _*_, _^_, _≤_, _<_}
+use native.Mathlib.Omega.{arith}
+use lib.ListN.{length, getD}
+use Rattle.meter.proofs.Handing.{refusal, acceptance, beyond, Usable, usable, ready, unusable}
+use Rattle.meter.specs.Calls.{handedBy, handed, afterSamples, openCall, chunkCall, fresh, zeroMeter}
+use Rattle.meter.specs.Inner.{takenBy, usableRate}
+use Rattle.meter.specs.Refusals.{openRules, chunkRules, impossible, longChunk, tooMany, unnamedCode}
+use Rattle.rate.specs.Rates.{named}
+use Rattle.refusal.proofs.Laws.{here, past, none}
+use Rattle.refusal.specs.Number.{numberGiven, numberOf}
+use Rattle.meter.proofs.Meter.chunk.Statement.{statement}
+use Rattle.meter.proofs.Meter.chunk.Tie as tie
+
+at-rate : (c : tie.After-rate2) → Usable (c .before .before .before .args .self) (c .rate2 .given .0 .0)
+unfolding named
+at-rate c = usable _ _ (sym (c .before .before .rate .ensures) ∙ ap named (c .rate2 .given .1))
+
+rate-requires : tie.Need-rate-requires
+rate-requires c κs = search needs
+
+enum-known-rate : tie.Need-enum-known-rate
+enum-known-rate c = search needs
+
+refused-requires : tie.Need-refused-requires
+refused-requires c κs = search needs
+
+returns : tie.Need-returns
+unfolding chunkCall chunkRules longChunk
+returns c =
+    let s = c .before .before .before .before .before .before .args in
+    c .refused .ensures
+    ∙ refusal 3 (chunkRules (s .self) (s .xs .now)) _ _ (omega arith)
+    (past 2 (impossible (s .self)) _ (at-rate (c .before .before .before) .possible-one) (here 3 (longChunk (s .xs .now)) _ (lt-ltb _ _ (c .before .if1 .taken))))
+
+take-requires : tie.Need-take-requires
+take-requires c κs = ready _ _ _ (at-rate (c .before .before)) (c .if1 .left)
+
+enum-told : tie.Need-enum-told
+enum-told c = search needs
+
+refused-requires-2 : tie.Need-refused-requires-2
+refused-requires-2 c κs = search needs
+
+returns-2 : tie.Need-returns-2
+unfolding chunkCall chunkRules longChunk takenBy
+returns-2 c =
+    let s = c .before .before .before .before .before .before .args in
+    c .take .ensures
+    ∙ beyond 3 (longChunk (s .xs .now)) _ _ _ (le-ltb _ _ (c .before .if1 .left))
+    ∙ beyond 2 (impossible (s .self)) _ _ _ (at-rate (c .before .before .before) .possible-one)
+
+returns-3 : tie.Need-returns-3
+unfolding chunkCall chunkRules named
+returns-3 c =
+    let s = c .before .before .before .before .args in
+    c .refused2 .ensures
+    ∙ refusal 2 (chunkRules (s .self) (s .xs .now)) _ _ (omega arith)
+    (here 2 (impossible (s .self)) _ (unusable (s .self) (sym (c .before .before .before .rate .ensures) ∙ ap named (c .before .enum-told .given .1))))
+
+pub chunk-spec : {M : Type 1} → statement M
+chunk-spec =
+    tie.close
+    (tie.spec
+    rate-requires
+    enum-known-rate
+    refused-requires
+    returns
+    take-requires
+    enum-told
+    refused-requires-2
+    returns-2
+    returns-3)

@@ -1,0 +1,63 @@
+-- A named code is accepted; any other gets the one rule of opening.
+use borrow.Author.Needs.{needs}
+use borrow.Author.Tests.{lt-ltb, le-ltb}
+use mathlib.Core.Bool.{true, false, not}
+use mathlib.Core.List.{[], _∷_}
+use mathlib.Core.Path.{_≡_, refl, sym, ap, _∙_, subst}
+use Prim.Native.Nat.{ℕ, _+_, _*_, _^_, _≤_, _<_}
+use native.Mathlib.Omega.{arith}
+use lib.ListN.{length, getD}
+use Rattle.meter.proofs.Handing.{refusal, acceptance, beyond, Usable, usable, ready, unusable}
+use Rattle.meter.specs.Calls.{handedBy, handed, afterSamples, openCall, chunkCall, fresh, zeroMeter}
+use Rattle.meter.specs.Inner.{refusedWith, freshAt}
+use Rattle.meter.specs.Refusals.{openRules, chunkRules, impossible, longChunk, tooMany, unnamedCode}
+use Rattle.meter.specs.Settings.{iOf}
+use Rattle.rate.proofs.Laws.{named-as, named-nothing, is-named, is-not-named, row-is}
+use Rattle.rate.specs.declared.Rate.{Rate}
+use Rattle.refusal.proofs.Laws.{here, past, none}
+use Rattle.refusal.specs.Number.{numberGiven, numberOf}
+use Rattle.meter.proofs.Meter.open.Statement.{statement}
+use Rattle.meter.proofs.Meter.open.Tie as tie
+
+of-requires : tie.Need-of-requires
+of-requires c κs = search needs
+
+enum-known-rate : tie.Need-enum-known-rate
+enum-known-rate c = search needs
+
+fresh-requires : tie.Need-fresh-requires
+fresh-requires c κs = search needs
+
+enum-told : tie.Need-enum-told
+enum-told c = search needs
+
+fresh-requires-2 : tie.Need-fresh-requires-2
+fresh-requires-2 c κs = search needs
+
+returns : tie.Need-returns
+unfolding handedBy openCall openRules fresh freshAt iOf unnamedCode
+returns c =
+    let s = c .before .before .before .before .before .args .setting in
+    let r = named-as _ _ _ (c .before .before .before .before .of .ensures) (c .before .before .rate .given .1) in
+    ap (refusedWith 0) (c .fresh .ensures ∙ ap (freshAt s) (sym (ap (λ (x : Rate). x .i) (row-is (s .code) _ r))))
+    ∙ acceptance (openRules (s .code)) (fresh s) zeroMeter (past 1 (unnamedCode (s .code)) [] (ap not (is-named (s .code) _ r)) none)
+
+returns-2 : tie.Need-returns-2
+unfolding handedBy openCall openRules zeroMeter freshAt unnamedCode
+returns-2 c =
+    let s = c .before .before .before .before .args .setting in
+    ap (refusedWith 1) (c .fresh2 .ensures)
+    ∙ refusal 1 (openRules (s .code)) (fresh s) zeroMeter (omega arith)
+    (here 1 (unnamedCode (s .code)) [] (ap not (is-not-named (s .code) (named-nothing _ _ (c .before .before .before .of .ensures) (c .before .enum-told .given .1)))))
+
+pub open-spec : {M : Type 1} → statement M
+open-spec =
+    tie.close
+    (tie.spec
+    of-requires
+    enum-known-rate
+    fresh-requires
+    enum-told
+    fresh-requires-2
+    returns
+    returns-2)

@@ -1,0 +1,14 @@
+-- The answer's number is the refusal's.
+use borrow.Author.Needs.{needs}
+use mathlib.Core.Path.{_≡_, refl}
+use Rattle.meter.specs.Calls.{handedBy}
+use Rattle.refusal.specs.Number.{numberGiven}
+use Rattle.meter.proofs.feeding.refused.Statement.{statement}
+use Rattle.meter.proofs.feeding.refused.Tie as tie
+
+returns : tie.Need-returns
+unfolding handedBy
+returns c = refl
+
+pub refused-spec : {M : Type 1} → statement M
+refused-spec = tie.close (tie.spec returns)
