@@ -19,7 +19,7 @@ use Rattle.crossing.specs.Found.{margin, levelsAt}
 use Rattle.meter.specs.Reports.{reportAt}
 use Rattle.meter.specs.Calls.{fresh, reportCall}
 use Rattle.meter.proofs.Possible.{passes, falling}
-use Rattle.meter.proofs.Reported.{Levels, levels, level-or-refusal}
+use Rattle.meter.proofs.Outcome.{Levels, levels, level-or-refusal}
 use Rattle.exact.specs.Demands.{meterAfter, exactAfter, countAt, LevelBounds, Claim}
 use Rattle.exact.specs.Exact.{E, start, startAt, takeAll, accepts, fed, samplesOf, exactly}
 use Rattle.exact.specs.Lists.{Call, Typed}

@@ -26,7 +26,7 @@ use Rattle.meter.specs.Refusals.{unnamedCode, unnamedSetting, impossible
 use Rattle.meter.specs.Reports.{reportRules, noReport, reportAt}
 use Rattle.meter.specs.Calls.{zeroMeter, openCall, chunkCall, blockCall, reportCall}
 use Rattle.meter.proofs.Possible.{Possible, falling}
-use Rattle.meter.proofs.Reported.{Levels, levels}
+use Rattle.meter.proofs.Outcome.{Levels, levels}
 
 -- ---- a refused call hands back the meter it was given, and a refused report is all zeros
 

@@ -1,7 +1,8 @@
 mod Below
 mod Chains
+mod Finding
 mod Handing
 pub mod Laws
 pub mod Possible
-pub mod Reported
+pub mod Outcome
 mod Words

@@ -13,6 +13,7 @@ use Rattle.meter.specs.declared.Setting.{Setting}
 use Rattle.sample.specs.Sample.{freshState, samples}
 use Rattle.meter.specs.Settings.{kOf, iOf}
 use Rattle.meter.specs.declared.Report.{Report}
+use Rattle.meter.specs.declared.Reported.{Reported}
 use Rattle.meter.specs.Refusals.{openRules, chunkRules, blockCallRules}
 use Rattle.meter.specs.Reports.{reportRules, crossingOf, noReport, reportFor}
 
@@ -30,6 +31,9 @@ pub record HandedReport : Type 0 where
 -- what an answer of the code says
 unfoldable pub handedBy : Fed → Handed
 handedBy f = record { number = numberGiven (f .answer); meter = f .meter }
+
+unfoldable pub reportedBy : Reported → HandedReport
+reportedBy f = record { number = numberGiven (f .answer); meter = f .meter; report = f .report }
 
 -- the fresh meter: that setting, each h_j = I, all else zero
 unfoldable pub fresh : Setting → Meter

@@ -1,12 +1,13 @@
 -- What the functions inside this crate promise one another. Nothing here is part of what a meter promises.
 use mathlib.Core.Bool.{Bool, false, cond, _||_}
-use mathlib.Core.List.{List, [], _∷_}
+use mathlib.Core.List.{List, [], _∷_, map}
 use mathlib.Core.Option.{Option, none}
 use mathlib.Core.Path.{_≡_}
 use Prim.Native.Nat.{ℕ, _+_, _*_, _^_, _≤_}
 use lib.Dec.{ltb}
 use lib.IntN.{ℤ, natAbs}
 use lib.ListN.{length, getD}
+use Rattle.crossing.specs.declared.Levels.{Levels}
 use Rattle.level.specs.Logarithm.{number}
 use Rattle.rate.specs.declared.Rate.{Rate}
 use Rattle.rate.specs.Rates.{rateOf}
@@ -14,7 +15,8 @@ use Rattle.sample.specs.declared.State.{State}
 use Rattle.sample.specs.declared.Sums.{Sums}
 use Rattle.meter.specs.declared.Meter.{Meter}
 use Rattle.meter.specs.Refusals.{someBelow, impossible, tooMany}
-use Rattle.meter.specs.Calls.{Handed, handed, afterSamples}
+use Rattle.meter.specs.Calls.{Handed, HandedReport, handed, afterSamples}
+use Rattle.meter.specs.Reports.{samplesOf, noReport}
 use Rattle.meter.specs.Settings.{kOf, iOf}
 use Rattle.meter.specs.declared.Setting.{Setting}
 use Rattle.refusal.specs.First.{firstOf}
@@ -55,3 +57,13 @@ refusedWith k m = record { number = k; meter = m }
 -- and where only refusal 11 can apply
 unfoldable pub takenBy : Meter → List ℤ → Handed
 takenBy m xs = handed (firstOf ((11, tooMany m (length xs)) ∷ [])) (afterSamples m xs) m
+
+-- a refused report
+unfoldable pub unreported : ℕ → Meter → HandedReport
+unreported k m = record { number = k; meter = m; report = noReport }
+
+-- a report with levels
+unfoldable pub reportedWith : Levels → Meter → HandedReport
+reportedWith l m =
+    let sums = m .state .sums in
+    record { number = 0; meter = m; report = record { n = samplesOf (sums .n); s = sums .s; sq = sums .sq; a = map samplesOf (m .state .a); levels = l } }

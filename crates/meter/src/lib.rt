@@ -2,6 +2,7 @@
 // hands back.
 mod feeding;
 mod opening;
+mod reporting;
 mod usable;
 
 use crossing::Levels;
@@ -34,4 +35,11 @@ pub struct Report {
 pub struct Fed {
     pub answer: Answer,
     pub meter: Meter,
+}
+
+// What a report call hands back: its answer, the meter, and the report.
+pub struct Reported {
+    pub answer: Answer,
+    pub meter: Meter,
+    pub report: Report,
 }

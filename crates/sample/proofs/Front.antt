@@ -8,28 +8,28 @@ use native.Mathlib.Omega.{arith}
 use lib.ListN.{length, getD, take, drop, set}
 use lib.Seq.{drop-nil}
 
-abbrev pub front : List ℕ → List ℕ → ℕ → List ℕ
+abbrev pub front : {A : Type 0} → List A → List A → ℕ → List A
 front new old j = take j new ++ drop j old
 
-pub front-at : (new old : List ℕ) (j : ℕ) → j ≤ length new → getD (front new old j) j 0 ≡ getD old j 0
-front-at new old zero h = refl
-front-at [] old (suc j) h = absurd (not-suc-le-zero h)
-front-at (x ∷ new) [] (suc j) h = ap (λ (l : List ℕ). getD (take j new ++ l) j 0) (sym (drop-nil j)) ∙ front-at new [] j (le-of-suc-le-suc h)
-front-at (x ∷ new) (y ∷ old) (suc j) h = front-at new old j (le-of-suc-le-suc h)
+pub front-at : {A : Type 0} (d : A) (new old : List A) (j : ℕ) → j ≤ length new → getD (front new old j) j d ≡ getD old j d
+front-at {A} d new old zero h = refl
+front-at {A} d [] old (suc j) h = absurd (not-suc-le-zero h)
+front-at {A} d (x ∷ new) [] (suc j) h = ap (λ (l : List A). getD (take j new ++ l) j d) (sym (drop-nil j)) ∙ front-at d new [] j (le-of-suc-le-suc h)
+front-at {A} d (x ∷ new) (y ∷ old) (suc j) h = front-at d new old j (le-of-suc-le-suc h)
 
-front-suc : (new old : List ℕ) (j : ℕ) → j < length new → j < length old → set (front new old j) j (getD new j 0) ≡ front new old (suc j)
-front-suc [] old j h k = absurd (not-suc-le-zero h)
-front-suc (x ∷ new) [] j h k = absurd (not-suc-le-zero k)
-front-suc (x ∷ new) (y ∷ old) zero h k = refl
-front-suc (x ∷ new) (y ∷ old) (suc j) h k = ap (λ (l : List ℕ). x ∷ l) (front-suc new old j (le-of-suc-le-suc h) (le-of-suc-le-suc k))
+front-suc : {A : Type 0} (d : A) (new old : List A) (j : ℕ) → j < length new → j < length old → set (front new old j) j (getD new j d) ≡ front new old (suc j)
+front-suc {A} d [] old j h k = absurd (not-suc-le-zero h)
+front-suc {A} d (x ∷ new) [] j h k = absurd (not-suc-le-zero k)
+front-suc {A} d (x ∷ new) (y ∷ old) zero h k = refl
+front-suc {A} d (x ∷ new) (y ∷ old) (suc j) h k = ap (λ (l : List A). x ∷ l) (front-suc d new old j (le-of-suc-le-suc h) (le-of-suc-le-suc k))
 
-pub front-more : (new old : List ℕ) (j v : ℕ) → j < length new → j < length old → v ≡ getD new j 0 → set (front new old j) j v ≡ front new old (j + 1)
-front-more new old j v h k e = ap (λ (w : ℕ). set (front new old j) j w) e ∙ front-suc new old j h k ∙ ap (front new old) (sym (add-one j))
+pub front-more : {A : Type 0} (d : A) (new old : List A) (j : ℕ) (v : A) → j < length new → j < length old → v ≡ getD new j d → set (front new old j) j v ≡ front new old (j + 1)
+front-more {A} d new old j v h k e = ap (λ (w : A). set (front new old j) j w) e ∙ front-suc d new old j h k ∙ ap (front new old) (sym (add-one j))
 
-pub front-all : (new old : List ℕ) (j : ℕ) → length new ≡ j → length old ≡ j → front new old j ≡ new
-front-all [] [] zero e g = refl
-front-all [] [] (suc j) e g = refl
-front-all [] (y ∷ old) j e g = absurd (omega (arith, e, g))
-front-all (x ∷ new) [] j e g = absurd (omega (arith, e, g))
-front-all (x ∷ new) (y ∷ old) zero e g = absurd (omega (arith, e))
-front-all (x ∷ new) (y ∷ old) (suc j) e g = ap (λ (l : List ℕ). x ∷ l) (front-all new old j (omega (arith, e)) (omega (arith, g)))
+pub front-all : {A : Type 0} (new old : List A) (j : ℕ) → length new ≡ j → length old ≡ j → front new old j ≡ new
+front-all {A} [] [] zero e g = refl
+front-all {A} [] [] (suc j) e g = refl
+front-all {A} [] (y ∷ old) j e g = absurd (omega (arith, e, g))
+front-all {A} (x ∷ new) [] j e g = absurd (omega (arith, e, g))
+front-all {A} (x ∷ new) (y ∷ old) zero e g = absurd (omega (arith, e))
+front-all {A} (x ∷ new) (y ∷ old) (suc j) e g = ap (λ (l : List A). x ∷ l) (front-all new old j (omega (arith, e)) (omega (arith, g)))

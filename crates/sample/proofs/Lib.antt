@@ -1,7 +1,7 @@
 pub mod Activity
 pub mod Envelope
 pub mod Fifteen
-mod Front
+pub mod Front
 pub mod Kept
 mod Over
 mod Ran

@@ -39,8 +39,8 @@ record Read (a₀ h₀ a h : List ℕ) (j : ℕ) : Type 0 where
 read : (I q run : ℕ) (a₀ h₀ a h : List ℕ) (j c : ℕ) → 15 ≡ length a₀ → 15 ≡ length h₀ → Inv I q run a₀ h₀ a h j c → Read a₀ h₀ a h j
 read I q run a₀ h₀ a h j c la lh inv =
     record {
-      a-is = ap (λ (t : List ℕ). getD t j 0) (inv .counts) ∙ front-at (countsOver I q run a₀ h₀) a₀ j (omega (arith, counts-length I q run a₀ h₀ la, inv .below));
-      h-is = ap (λ (t : List ℕ). getD t j 0) (inv .hangs) ∙ front-at (hangoversOver I q run h₀) h₀ j (omega (arith, hangovers-length I q run h₀ lh, inv .below));
+      a-is = ap (λ (t : List ℕ). getD t j 0) (inv .counts) ∙ front-at 0 (countsOver I q run a₀ h₀) a₀ j (omega (arith, counts-length I q run a₀ h₀ la, inv .below));
+      h-is = ap (λ (t : List ℕ). getD t j 0) (inv .hangs) ∙ front-at 0 (hangoversOver I q run h₀) h₀ j (omega (arith, hangovers-length I q run h₀ lh, inv .below));
     }
 
 turn : (I q run : ℕ) (a₀ h₀ a h : List ℕ) (j c v w : ℕ) → 15 ≡ length a₀ → 15 ≡ length h₀ → j < 15 → Inv I q run a₀ h₀ a h j c → Read a₀ h₀ a h j
@@ -51,10 +51,10 @@ turn I q run a₀ h₀ a h j c v w la lh l inv r ev ew =
       below = omega arith;
       at = ap (λ (x : ℕ). x * 2) (inv .at) ∙ threshold-next j;
       counts = ap (λ (t : List ℕ). set t j v) (inv .counts)
-          ∙ front-more (countsOver I q run a₀ h₀) a₀ j v (omega (arith, counts-length I q run a₀ h₀ la)) (omega arith)
+          ∙ front-more 0 (countsOver I q run a₀ h₀) a₀ j v (omega (arith, counts-length I q run a₀ h₀ la)) (omega arith)
           (ev ∙ cc (inv .at, r .a-is, r .h-is, counts-at I q run a₀ h₀ j l));
       hangs = ap (λ (t : List ℕ). set t j w) (inv .hangs)
-          ∙ front-more (hangoversOver I q run h₀) h₀ j w (omega (arith, hangovers-length I q run h₀ lh)) (omega arith)
+          ∙ front-more 0 (hangoversOver I q run h₀) h₀ j w (omega (arith, hangovers-length I q run h₀ lh)) (omega arith)
           (ew ∙ cc (inv .at, r .h-is, hangovers-at I q run h₀ j l));
     }
 

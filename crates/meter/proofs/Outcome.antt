@@ -55,12 +55,12 @@ pub record Levels (m : Meter) : Type 0 where
   pub report : reportCall m .report ≡ reportAt m j
 
 -- with a_0 above 0 and d_0 neither below nor above 0, there is a crossing at 0
-signs : (d : ℤ) → ltZ d (pos 0) ≡ false → ltZ (pos 0) d ≡ false → isZero d ≡ true
+pub signs : (d : ℤ) → ltZ d (pos 0) ≡ false → ltZ (pos 0) d ≡ false → isZero d ≡ true
 signs (pos zero) p q = refl
 signs (pos (suc n)) p q = absurd (omega (arith, ltb-false 0 (suc n) q))
 signs (negsuc n) p q = absurd (subst T p tt)
 
-first-crosses : (M : ℕ) (S : ℤ) (a : List ℕ) → 0 < getD a 0 0 → isZero (excess M S a 0) ≡ true → isCrossing M S a 0 ≡ true
+pub first-crosses : (M : ℕ) (S : ℤ) (a : List ℕ) → 0 < getD a 0 0 → isZero (excess M S a 0) ≡ true → isCrossing M S a 0 ≡ true
 unfolding isCrossing
 first-crosses M S a p z = simp (lt-ltb 0 (getD a 0 0) p, z)
 

@@ -1,0 +1,50 @@
+-- Refusal 2, or the report on a meter that it lets pass.
+use borrow.Author.Needs.{needs}
+use mathlib.Core.Path.{_≡_, sym, ap, _∙_}
+use native.Mathlib.Omega.{arith}
+use Rattle.rate.specs.Rates.{named}
+use Rattle.refusal.proofs.Laws.{here}
+use Rattle.meter.specs.Refusals.{impossible}
+use Rattle.meter.specs.Reports.{reportRules}
+use Rattle.meter.proofs.Finding.{no-report}
+use Rattle.meter.proofs.Handing.{usable, unusable}
+use Rattle.meter.proofs.Meter.report.Statement.{statement}
+use Rattle.meter.proofs.Meter.report.Tie as tie
+
+rate-requires : tie.Need-rate-requires
+rate-requires c κs = search needs
+
+enum-told : tie.Need-enum-told
+enum-told c = search needs
+
+measured-requires : tie.Need-measured-requires
+unfolding named
+measured-requires c κs = usable _ _ (sym (c .before .before .rate .ensures) ∙ ap named (c .enum-told .given .1)) .possible-one
+
+enum-told-2 : tie.Need-enum-told-2
+enum-told-2 c = search needs
+
+unreported-requires : tie.Need-unreported-requires
+unreported-requires c κs = search needs
+
+returns : tie.Need-returns
+returns c = search needs
+
+returns-2 : tie.Need-returns-2
+unfolding named reportRules
+returns-2 c =
+    let m = c .before .before .before .before .args .self in
+    c .unreported .ensures
+    ∙ no-report 2 m (omega arith) (here 2 (impossible m) _ (unusable m (sym (c .before .before .before .rate .ensures) ∙ ap named (c .before .enum-told2 .given .1))))
+
+pub report-spec : {M : Type 1} → statement M
+report-spec =
+    tie.close
+    (tie.spec
+    rate-requires
+    enum-told
+    measured-requires
+    enum-told-2
+    unreported-requires
+    returns
+    returns-2)
