@@ -6,17 +6,17 @@ use mathlib.Core.Path.{_≡_, refl, sym, ap, ap₂, subst, _∙_}
 use Prim.Native.Nat.{ℕ, zero, suc, _+_, _-_, _*_, _^_, _≤_, _<_}
 use native.Mathlib.Omega.{arith}
 use native.Mathlib.Nat.{add-assoc}
-use borrow.Author.Tests.{eq-eqb, eqb-true, ltb-true, ltb-false, leb-true, not-true, not-false}
-use lib.Dec.{eqb, leb, ltb, T}
+use borrow.Author.Tests.{eqb-true, ltb-true, ltb-false, leb-true, not-true, not-false}
+use lib.Dec.{ltb, T}
 use lib.IntN.{pos, negℤ}
 use mir.Syntax.{w16}
 use mir.Val.{SFits}
-use lib.ListN.{length, getD, take, drop, length-take, length-drop}
+use lib.ListN.{length, take, drop, length-drop}
 use lib.Seq.{getD-take, getD-drop, length-take-le}
-use Rattle.refusal.specs.First.{Rule, firstOf}
-use Rattle.refusal.proofs.Laws.{here, past, none, cleared}
+use Rattle.refusal.specs.First.{firstOf}
+use Rattle.refusal.proofs.Laws.{past, cleared}
 use Rattle.rate.specs.Rates.{isNamed}
-use Rattle.block.specs.Block.{number, kind, rateCode, count, signed, samplesAt, samples, checkSum, weightedSum}
+use Rattle.block.specs.Block.{number, rateCode, count, signed, samplesAt, samples}
 use Rattle.block.specs.Refusals.{wrongLength, wrongCheck, wrongKind, wrongRate, wrongCount, usedUnused, blockRules, sound, samplesPart, hostCheck}
 use Rattle.block.proofs.Conditions.{length-off, rate-right}
 

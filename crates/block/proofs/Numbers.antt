@@ -1,15 +1,15 @@
 -- Numbers of one byte and of two, and the loops over a block's bytes and words, a turn each.
-use mathlib.Core.Bool.{Bool, true, false, _&&_}
+use mathlib.Core.Bool.{true, false, _&&_}
 use mathlib.Core.List.{List}
 use mathlib.Core.Path.{_≡_, refl, sym, ap, ap₂, _∙_}
-use Prim.Native.Nat.{ℕ, zero, suc, _+_, _-_, _*_, _^_, _≤_, _<_}
+use Prim.Native.Nat.{ℕ, suc, _+_, _-_, _*_, _^_, _≤_, _<_}
 use native.Mathlib.Omega.{arith}
 use native.Mathlib.Nat.{mul-le-mul}
 use native.Mathlib.Numerals.{add-one}
 use borrow.Author.Tests.{eq-eqb, ne-eqb}
 use lib.Dec.{eqb}
 use lib.ListN.{getD}
-use Rattle.block.specs.Block.{number, kind, rateCode, count, word, sumBelow}
+use Rattle.block.specs.Block.{number, kind, rateCode, count, sumBelow}
 use Rattle.block.specs.Refusals.{zeros}
 
 pub one-byte : (b : List ℕ) (at : ℕ) → getD b at 0 ≡ number b at 1

@@ -1,9 +1,9 @@
 -- The active level at any crossing, for any margin of at least one step: it lies between A_lower and A_upper, so the logarithm's three facts
 -- carry it to the two whole-number inequalities of demand 3. Nothing of lev is opened, and nothing here knows which crossing is used.
-use mathlib.Core.Bool.{Bool, true, false, cond, _&&_, _||_}
+use mathlib.Core.Bool.{Bool, true, false, _&&_, _||_}
 use mathlib.Core.List.{List}
 use mathlib.Core.Path.{_≡_, refl, sym, _∙_, ap, ap₂, subst}
-use Prim.Native.Nat.{ℕ, zero, suc, _+_, _*_, _-_, _/_, _^_, _≤_, _<_}
+use Prim.Native.Nat.{ℕ, suc, _+_, _*_, _-_, _/_, _^_, _≤_, _<_}
 use native.Mathlib.Nat.{le-refl, le-of-eq, le-of-lt, le-trans, lt-of-lt-of-le, lt-of-le-of-lt, mul-le-mul-left, mul-lt-mul-of-pos-left, pow-le-pow-left, div-le-of-le-mul, add-zero}
 use native.Mathlib.Omega.{arith}
 use borrow.Author.Tests.{ltb-true, leb-true}

@@ -2,11 +2,11 @@
 use mathlib.Core.Bool.{Bool, true, false, cond}
 use mathlib.Core.Path.{_≡_, refl, sym, _∙_, ap, subst}
 use Prim.Native.Nat.{ℕ, zero, suc, _+_, _-_, _≤_, _<_}
-use native.Mathlib.Nat.{add-zero, le-of-lt}
+use native.Mathlib.Nat.{add-zero}
 use native.Mathlib.Omega.{arith}
 use borrow.Author.Tests.{ltb-true, ltb-false, lt-ltb, le-ltb, eqb-true}
-use lib.Dec.{T, ltb, eqb}
-use lib.IntN.{ℤ, pos, negsuc, subℕ, _+ℤ_, _-ℤ_, +ℤ-idr}
+use lib.Dec.{T, ltb}
+use lib.IntN.{pos, negsuc, subℕ, _+ℤ_, _-ℤ_, +ℤ-idr}
 use lib.Signed.{ltZ}
 use Rattle.crossing.specs.Crossing.{isZero}
 

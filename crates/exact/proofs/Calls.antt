@@ -1,31 +1,26 @@
 -- Calls: the meter accepts what E accepts, and the tie is kept by every call, accepted or refused.
 use mathlib.Core.Bool.{Bool, true, false, cond, not, _&&_}
-use mathlib.Core.List.{List, [], _∷_, _++_}
-use mathlib.Core.Option.{some}
+use mathlib.Core.List.{List, [], _∷_}
 use mathlib.Core.Path.{_≡_, refl, sym, _∙_, ap, ap₂, subst}
-use Prim.Native.Nat.{ℕ, zero, suc, _+_, _*_, _^_, _≤_, _<_, zero-le}
+use Prim.Native.Nat.{ℕ, zero, suc, _+_, _*_, _^_, _≤_, zero-le}
 use native.Mathlib.Omega.{arith}
-use borrow.Author.Tests.{ltb-true, ltb-false, le-leb, lt-leb, leb-true, eqb-true, eq-eqb}
+use borrow.Author.Tests.{ltb-true, ltb-false, le-leb, lt-leb, leb-true, eqb-true}
 use lib.Dec.{T, eqb, leb, ltb}
-use lib.IntN.{ℤ, natAbs}
+use lib.IntN.{ℤ}
 use lib.ListN.{length, getD}
-use mir.Syntax.{w16}
-use mir.Val.{SFits}
-use Rattle.rate.specs.declared.Rate.{Rate}
-use Rattle.rate.specs.Rates.{rateOf, rowOf, isNamed}
+use Rattle.rate.specs.Rates.{rowOf, isNamed}
 use Rattle.rate.proofs.Laws.{row-keeps}
 use Rattle.refusal.specs.First.{firstOf}
-use Rattle.block.specs.Block.{number, signed, rateCode, count, before, samplesAt, samples as samplesIn}
+use Rattle.block.specs.Block.{number, rateCode, count, before, samplesAt, samples as samplesIn}
 use Rattle.block.proofs.Laws.{signed-fits}
 use Rattle.block.specs.Refusals.{wrongLength, wrongCheck, wrongKind, wrongRate, wrongCount, usedUnused, blockRules, sound}
-use Rattle.sample.specs.declared.State.{State}
 use Rattle.sample.specs.Sample.{freshState, samples}
 use Rattle.meter.specs.declared.Meter.{Meter}
 use Rattle.meter.specs.Settings.{kOf, iOf}
 use Rattle.meter.specs.Refusals.{impossible, longChunk, wrongPlace, tooMany, chunkRules, blockCallRules}
-use Rattle.meter.specs.Calls.{Handed, fresh, afterSamples, chunkCall, blockCall}
+use Rattle.meter.specs.Calls.{fresh, afterSamples, chunkCall, blockCall}
 use Rattle.meter.proofs.Possible.{Possible, passes}
-use Rattle.exact.specs.Exact.{E, startAt, start, take, takeAll, accepts, samplesOf, fed, exactly, acceptedByE}
+use Rattle.exact.specs.Exact.{E, startAt, start, takeAll, accepts, samplesOf, fed, exactly, acceptedByE}
 use Rattle.exact.specs.Lists.{Call, chunk, block, AllSamples, Typed, called, after, accepted}
 use Rattle.exact.proofs.Tied.{Tied, same-code, same-K, same-I, total, tied-samples, tied-fresh}
 

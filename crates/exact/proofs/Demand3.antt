@@ -2,16 +2,15 @@
 -- bounds of any crossing, with the counts' orders put in.
 use mathlib.Core.Bool.{Bool, true, false, cond}
 use mathlib.Core.List.{List, [], _∷_}
-use mathlib.Core.Path.{_≡_, refl, sym, _∙_, ap, subst}
-use Prim.Native.Nat.{ℕ, zero, suc, _+_, _-_, _*_, _^_, _≤_, _<_}
-use native.Mathlib.Nat.{le-refl, le-trans, le-of-eq}
+use mathlib.Core.Path.{_≡_, refl, sym, _∙_, subst}
+use Prim.Native.Nat.{ℕ, _+_, _-_, _*_, _^_, _≤_, _<_}
 use native.Mathlib.Omega.{arith}
-use lib.IntN.{ℤ, pos}
-use lib.ListN.{length, getD}
+use lib.IntN.{pos}
+use lib.ListN.{getD}
 use Rattle.level.specs.Logarithm.{number, lev}
-use Rattle.rate.specs.Rates.{rowOf, isNamed}
+use Rattle.rate.specs.Rates.{rowOf}
 use Rattle.sample.specs.Envelope.{threshold}
-use Rattle.crossing.specs.Crossing.{lowerOf, activeLevel}
+use Rattle.crossing.specs.Crossing.{lowerOf}
 use Rattle.crossing.proofs.Bounds.{Crossed, crossed, Bounded, bounded}
 use Rattle.meter.specs.declared.Meter.{Meter}
 use Rattle.meter.specs.declared.Report.{Report}
@@ -22,7 +21,7 @@ use Rattle.meter.proofs.Possible.{passes, falling}
 use Rattle.meter.proofs.Outcome.{Levels, levels, level-or-refusal}
 use Rattle.exact.specs.Demands.{meterAfter, exactAfter, countAt, LevelBounds, Claim}
 use Rattle.exact.specs.Exact.{E, start, startAt, takeAll, accepts, fed, samplesOf, exactly}
-use Rattle.exact.specs.Lists.{Call, Typed}
+use Rattle.exact.specs.Lists.{Call}
 use Rattle.exact.proofs.Calls.{Good, good-possible, good-after, good-fresh, same-answers}
 use Rattle.exact.proofs.Tied.{same-code}
 

@@ -2,7 +2,7 @@
 -- keeps what is within (l + 1)·G/K there. So P stays within G/K of p, and Q within 2·G/K of q: one law twice. G is written R + K, and the floor's
 -- result is a variable, so that nothing is subtracted or divided.
 use mathlib.Core.Path.{_≡_, subst}
-use Prim.Native.Nat.{ℕ, zero, suc, _+_, _*_, _-_, _/_, _^_, _≤_, _<_}
+use Prim.Native.Nat.{ℕ, suc, _+_, _*_, _-_, _/_, _^_, _≤_, _<_}
 use native.Mathlib.Nat.{div-mul-le-self, lt-div-mul-add, mul-le-mul-right, mul-lt-mul-of-pos-right, lt-of-mul-lt-mul-right, mul-pos, sub-add-cancel, le-refl, le-of-lt, le-trans, lt-of-le-of-lt}
 use native.Mathlib.Omega.{arith}
 use Rattle.sample.specs.Envelope.{smooth}

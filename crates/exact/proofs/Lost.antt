@@ -4,8 +4,8 @@ use mathlib.Core.List.{List, [], _∷_, _++_}
 use mathlib.Core.Path.{_≡_, refl, sym, _∙_, ap, subst}
 use Prim.Native.Nat.{ℕ, _+_, _*_}
 use native.Mathlib.Omega.{arith}
-use native.Mathlib.Nat.{zero-add, add-zero}
-use lib.IntN.{ℤ, pos, natAbs, _+ℤ_, +ℤ-idl, +ℤ-idr, +ℤ-assoc}
+use native.Mathlib.Nat.{zero-add}
+use lib.IntN.{ℤ, natAbs, _+ℤ_, +ℤ-idl, +ℤ-idr, +ℤ-assoc}
 use lib.ListN.{length, length-append}
 use Rattle.level.specs.Logarithm.{number}
 use Rattle.rate.specs.Rates.{isNamed}
@@ -17,7 +17,7 @@ use Rattle.meter.specs.declared.Meter.{Meter}
 use Rattle.meter.specs.Settings.{kOf, iOf}
 use Rattle.meter.specs.Calls.{fresh, afterSamples}
 use Rattle.meter.proofs.Possible.{passes}
-use Rattle.exact.specs.Demands.{meterAfter, exactAfter, sum, sumOfSquares, NothingLost}
+use Rattle.exact.specs.Demands.{sum, sumOfSquares, NothingLost}
 use Rattle.exact.specs.Exact.{E, startAt, start, take, takeAll, accepts, samplesOf, fed, exactly, took}
 use Rattle.exact.specs.Lists.{Call, Typed, called, after}
 use Rattle.exact.proofs.Calls.{Good, good-possible, good-call, good-after, good-fresh, call-meter, split}

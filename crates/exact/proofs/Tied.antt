@@ -1,24 +1,22 @@
 -- The meter tied to E: what holds between them after any samples, and is kept by each. The counts' orders are uses of the one law about two
 -- counters: the meter against E at the threshold and at the threshold raised by D, and each threshold against the next.
-use mathlib.Core.Bool.{Bool, true, false, cond}
+use mathlib.Core.Bool.{true}
 use mathlib.Core.List.{List, [], _∷_}
-use mathlib.Core.Path.{_≡_, refl, sym, _∙_, ap, ap₂, subst}
-use Prim.Native.Nat.{ℕ, zero, suc, _+_, _*_, _-_, _/_, _%_, _^_, _≤_, _<_, zero-le}
-use native.Mathlib.Nat.{le-refl, le-trans, le-of-eq, mul-le-mul, mul-le-mul-right, one-le-pow, pow-suc, div-add-mod', zero-add}
+use mathlib.Core.Path.{_≡_, refl, sym, _∙_, ap, subst}
+use Prim.Native.Nat.{ℕ, _+_, _*_, _-_, _^_, _≤_, _<_, zero-le}
+use native.Mathlib.Nat.{le-trans, le-of-eq, mul-le-mul, one-le-pow, pow-suc, zero-add}
 use native.Mathlib.Numerals.{add-one}
 use native.Mathlib.Omega.{arith}
 use borrow.Author.Tests.{leb-true, le-leb}
 use lib.Dec.{leb, lit<, lit≤}
-use lib.IntN.{ℤ, pos, negsuc, natAbs, subℕ, _+ℤ_}
+use lib.IntN.{ℤ, natAbs}
 use lib.ListN.{getD, length}
 use lib.Pow.{pow-mono}
-use mir.Syntax.{w16}
-use mir.Val.{SFits}
 use Rattle.level.specs.Logarithm.{number}
 use Rattle.sample.specs.declared.State.{State}
 use Rattle.sample.specs.Activity.{counted, hung}
 use Rattle.sample.specs.Envelope.{smooth, rectified, threshold}
-use Rattle.sample.specs.Sample.{fifteen, words, freshState, summed, counts, hangovers, sample, samples}
+use Rattle.sample.specs.Sample.{fifteen, freshState, summed, counts, hangovers, sample, samples}
 use Rattle.sample.proofs.Activity.{Under, under-refl, under-step, counted-le, hung-le}
 use Rattle.sample.proofs.Envelope.{smooth-le}
 use Rattle.sample.proofs.Fifteen.{fifteen-at}

@@ -1,7 +1,7 @@
 -- Calls, and what the meter makes of a list of them: document 01, "One sample". Each call gets the meter that the call before it handed back.
 use mathlib.Core.Bool.{Bool}
 use mathlib.Core.List.{List, [], _∷_}
-use Prim.Native.Nat.{ℕ, _^_, _<_, _≤_}
+use Prim.Native.Nat.{ℕ}
 use lib.Dec.{eqb}
 use lib.IntN.{ℤ}
 use mir.Syntax.{w16}

@@ -1,13 +1,13 @@
 -- A report call whose first tests passed, by what the search for a crossing found.
 use mathlib.Core.Bool.{Bool, true, false, cond, _&&_}
-use mathlib.Core.List.{List, [], _∷_}
+use mathlib.Core.List.{[], _∷_}
 use mathlib.Core.Option.{Option, none, some}
 use mathlib.Core.Path.{_≡_, refl, sym, ap, _∙_, subst}
-use Prim.Native.Nat.{ℕ, _≤_, _<_}
+use Prim.Native.Nat.{ℕ, _<_}
 use native.Mathlib.Omega.{arith}
-use borrow.Author.Tests.{ne-eqb, eq-eqb}
+use borrow.Author.Tests.{ne-eqb}
 use lib.Dec.{T, eqb}
-use lib.IntN.{ℤ, pos}
+use lib.IntN.{pos}
 use lib.ListN.{getD}
 use lib.Signed.{ltZ}
 use Rattle.level.specs.Logarithm.{number, lev}
@@ -16,10 +16,10 @@ use Rattle.refusal.proofs.Laws.{here, past, none as no-rule}
 use Rattle.crossing.specs.declared.Levels.{Levels}
 use Rattle.crossing.specs.declared.Found.the-variants.{At, Below, Above}
 use Rattle.crossing.specs.Crossing.{isCrossing, crossing}
-use Rattle.crossing.specs.Found.{Searched, margin, said, searched, levelsFor, levelsAt, noLevels, crossingIn, firstExcess}
+use Rattle.crossing.specs.Found.{Searched, margin, said, searched, levelsFor, crossingIn, firstExcess}
 use Rattle.crossing.proofs.Searching.{not-found}
 use Rattle.meter.specs.declared.Meter.{Meter}
-use Rattle.meter.specs.Calls.{HandedReport, reportCall}
+use Rattle.meter.specs.Calls.{reportCall}
 use Rattle.meter.specs.Inner.{unreported, reportedWith}
 use Rattle.meter.specs.Refusals.{impossible}
 use Rattle.meter.specs.Reports.{isNone, crossingOf, firstOfMeter, noSamples, noSignal, noActivity, levelBelow, levelAbove, reportRules, noReport, reportAt, reportFor}

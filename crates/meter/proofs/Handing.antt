@@ -1,18 +1,18 @@
 -- What a call hands back, followed through its rules; and what the rate of a usable meter tells.
 use mathlib.Core.Bool.{Bool, true, false, cond}
-use mathlib.Core.List.{List, [], _∷_}
-use mathlib.Core.Option.{Option, none, some}
+use mathlib.Core.List.{List, _∷_}
+use mathlib.Core.Option.{none, some}
 use mathlib.Core.Path.{_≡_, refl, sym, ap, _∙_, subst}
 use Prim.Native.Nat.{ℕ, _≤_, _<_}
 use native.Mathlib.Omega.{arith}
 use borrow.Author.Tests.{ne-eqb}
-use lib.Dec.{T, eqb}
+use lib.Dec.{T}
 use Rattle.rate.specs.declared.Rate.{Rate}
-use Rattle.rate.specs.Rates.{rateOf, isNamed}
+use Rattle.rate.specs.Rates.{rateOf}
 use Rattle.rate.proofs.Laws.{is-not-named, row-is}
 use Rattle.refusal.specs.First.{Rule, firstOf}
 use Rattle.meter.specs.declared.Meter.{Meter}
-use Rattle.meter.specs.Calls.{Handed, handed}
+use Rattle.meter.specs.Calls.{handed}
 use Rattle.meter.specs.Inner.{usableRate, Ready, refusedWith}
 use Rattle.meter.specs.Refusals.{impossible}
 use Rattle.meter.specs.Settings.{kOf, iOf}

@@ -1,13 +1,13 @@
 -- Demands 1 and 2 over the definitions, for any meter whatever: what a refusal hands back, which number is given, when a block is taken, what the
 -- meter of all zeros is told, and that a report's factor is never above 0 and its levels all exist.
-use mathlib.Core.Bool.{Bool, true, false, cond, not, _||_}
-use mathlib.Core.List.{List, [], _∷_, _++_}
+use mathlib.Core.Bool.{Bool, true, false, cond}
+use mathlib.Core.List.{List}
 use mathlib.Core.Logic.{_↔_}
 use mathlib.Core.Path.{_≡_, refl, sym, ap, _∙_, subst}
-use Prim.Native.Nat.{ℕ, zero, suc, _+_, _-_, _*_, _^_, _≤_, _<_}
+use Prim.Native.Nat.{ℕ, zero, suc, _-_, _^_, _≤_, _<_}
 use native.Mathlib.Nat.{le-trans, lt-of-le-of-lt}
 use native.Mathlib.Omega.{arith}
-use borrow.Author.Tests.{ne-eqb, eqb-true}
+use borrow.Author.Tests.{ne-eqb}
 use lib.Dec.{eqb}
 use lib.IntN.{ℤ, pos}
 use lib.ListN.{getD}
@@ -25,7 +25,7 @@ use Rattle.meter.specs.declared.Report.{Report}
 use Rattle.meter.specs.Refusals.{unnamedCode, unnamedSetting, impossible, openRules, chunkRules, blockCallRules}
 use Rattle.meter.specs.Reports.{reportRules, noReport, reportAt}
 use Rattle.meter.specs.Calls.{zeroMeter, openCall, chunkCall, blockCall, reportCall}
-use Rattle.meter.proofs.Possible.{Possible, falling}
+use Rattle.meter.proofs.Possible.{falling}
 use Rattle.meter.proofs.Outcome.{Levels, levels}
 
 -- ---- a refused call hands back the meter it was given, and a refused report is all zeros

@@ -1,12 +1,10 @@
 -- A meter that refusal 2 lets pass, and what is then known of it: the two are the same.
-use mathlib.Core.Bool.{Bool, true, false, not, _||_}
-use mathlib.Core.Logic.{⊎-elim}
-use mathlib.Core.Path.{_≡_, refl, sym, ap, _∙_, subst}
+use mathlib.Core.Bool.{true, false, not}
+use mathlib.Core.Path.{_≡_, sym, ap, subst}
 use Prim.Native.Nat.{ℕ, zero, suc, _+_, _-_, _*_, _^_, _≤_, _<_}
-use native.Mathlib.Nat.{eq-or-lt-of-le, le-of-suc-le-suc, not-suc-le-zero, le-suc, le-of-eq, le-trans, lt-of-lt-of-le, add-zero}
+use native.Mathlib.Nat.{le-of-eq, le-trans, add-zero}
 use native.Mathlib.Omega.{arith}
 use borrow.Author.Tests.{le-ltb, ltb-false, not-false}
-use lib.Dec.{T, ltb}
 use lib.IntN.{natAbs}
 use lib.ListN.{getD}
 use Rattle.level.specs.Logarithm.{number}
@@ -14,7 +12,7 @@ use Rattle.rate.specs.Rates.{isNamed}
 use Rattle.meter.specs.declared.Meter.{Meter}
 use Rattle.meter.specs.Settings.{iOf}
 use Rattle.meter.proofs.Below.{none-below, each-below, neither}
-use Rattle.meter.specs.Refusals.{someBelow, unnamedCode, unnamedSetting, manySamples, largeSum, largeSquares, largeEnvelope, longHangover, largeCount, risingCounts, fallingHangovers, impossible}
+use Rattle.meter.specs.Refusals.{unnamedCode, unnamedSetting, manySamples, largeSum, largeSquares, largeEnvelope, longHangover, largeCount, risingCounts, fallingHangovers, impossible}
 
 pub record Possible (m : Meter) : Type 0 where
   pub named : isNamed (m .setting .code) ≡ true

@@ -1,7 +1,7 @@
 -- n·2^30 in two words, against another two words.
-use mathlib.Core.Path.{_≡_, sym, ap, _∙_, subst}
+use mathlib.Core.Path.{_≡_}
 use Prim.Native.Nat.{ℕ, suc, _+_, _*_, _/_, _%_, _^_, _≤_, _<_}
-use native.Mathlib.Nat.{div-add-mod', mul-le-mul-right}
+use native.Mathlib.Nat.{mul-le-mul-right}
 use native.Mathlib.Omega.{arith}
 
 pub words-lt : (h l high low : ℕ) → l < 2 ^ 64 → h < high → h * 2 ^ 64 + l < high * 2 ^ 64 + low

@@ -1,5 +1,5 @@
 -- What each call hands back: document 01, "One sample", "The report" and "Why a call is refused".
-use mathlib.Core.Bool.{Bool, cond}
+use mathlib.Core.Bool.{cond}
 use mathlib.Core.List.{List}
 use Prim.Native.Nat.{ℕ}
 use lib.Dec.{eqb}

@@ -1,9 +1,9 @@
 -- Bounded sums stay bounded over a sample.
-use mathlib.Core.Path.{_≡_, ap, _∙_, subst, sym}
+use mathlib.Core.Path.{_≡_}
 use Prim.Native.Nat.{ℕ, _+_, _*_, _^_, _≤_, _<_}
 use native.Mathlib.Nat.{le-trans, le-of-eq, mul-le-mul, div-add-mod'}
 use native.Mathlib.Omega.{arith}
-use lib.IntN.{ℤ, natAbs, _+ℤ_}
+use lib.IntN.{ℤ, natAbs}
 use mir.Syntax.{w16}
 use mir.Val.{SFits}
 use Rattle.level.specs.Logarithm.{number}

@@ -4,14 +4,14 @@ use mathlib.Core.List.{List}
 use mathlib.Core.Logic.{⊎-elim}
 use mathlib.Core.Path.{_≡_, refl, ap, ap₂, _∙_, sym}
 use Prim.Native.Nat.{ℕ, zero, suc, _+_, _-_, _≤_, _<_, min}
-use native.Mathlib.Nat.{add-zero, le-trans, lt-of-lt-of-le, le-total}
+use native.Mathlib.Nat.{add-zero, le-trans, lt-of-lt-of-le}
 use native.Mathlib.Omega.{arith}
-use borrow.Author.Tests.{ltb-true, ltb-false, le-leb, lt-leb, lt-ltb, le-ltb}
+use borrow.Author.Tests.{ltb-true, ltb-false, le-leb, lt-leb}
 use lib.Dec.{leb, ltb}
 use lib.ListN.{length, getD}
 use Rattle.sample.specs.Activity.{counted, hung}
 use Rattle.sample.specs.Envelope.{threshold}
-use Rattle.sample.specs.Sample.{fifteen, counts, hangovers}
+use Rattle.sample.specs.Sample.{counts, hangovers}
 use Rattle.sample.specs.Runs.{countOver, hangoverOver, countsOver, hangoversOver, Clear}
 use Rattle.sample.proofs.Activity.{counted-le, hung-le}
 use Rattle.sample.proofs.Fifteen.{at-or-past, fifteen-length, fifteen-at, fifteen-same}

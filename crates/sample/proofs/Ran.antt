@@ -1,7 +1,7 @@
 -- A run, sample by sample: begun, gone on with, and put to use with the sample that starts it.
-use mathlib.Core.List.{List, [], _∷_}
-use mathlib.Core.Path.{_≡_, refl, ap, ap₂, _∙_, subst, sym}
-use Prim.Native.Nat.{ℕ, suc, _+_, _-_, _*_, _^_, _≤_, _<_}
+use mathlib.Core.List.{List, _∷_}
+use mathlib.Core.Path.{_≡_, ap, ap₂, _∙_, subst, sym}
+use Prim.Native.Nat.{ℕ, suc, _+_, _-_, _^_, _≤_, _<_}
 use native.Mathlib.Nat.{sub-self, le-refl, lt-of-le-of-lt}
 use native.Mathlib.Numerals.{add-one}
 use native.Mathlib.Omega.{arith}
@@ -10,7 +10,6 @@ use lib.ListN.{length, getD, drop}
 use lib.Seq.{drop-cons}
 use mir.Syntax.{w16}
 use mir.Val.{SFits}
-use Rattle.sample.specs.declared.State.{State}
 use Rattle.sample.specs.declared.Sums.{Sums}
 use Rattle.sample.specs.Sample.{summed, counts, hangovers, sample, samples}
 use Rattle.sample.specs.Runs.{BoundedSums, Bounded, countsOver, hangoversOver, Clear, stateOf, Ran}

@@ -2,12 +2,11 @@
 use borrow.Author.Needs.{needs}
 use mathlib.Core.Bool.{Bool, true, false, cond}
 use mathlib.Core.List.{List}
-use mathlib.Core.Option.{Option, none, some}
+use mathlib.Core.Option.{none, some}
 use mathlib.Core.Path.{_≡_, refl, ap, ap₂, _∙_, subst, sym}
-use Prim.Native.Nat.{ℕ, _+_, _*_, _^_, _≤_, _<_}
-use native.Mathlib.Nat.{le-trans}
+use Prim.Native.Nat.{ℕ, _*_}
 use native.Mathlib.Omega.{arith}
-use lib.IntN.{ℤ, pos, natAbs, _-ℤ_}
+use lib.IntN.{ℤ, pos, _-ℤ_}
 use lib.ListN.{getD}
 use lib.Signed.{ltZ}
 use mir.Syntax.{w64}
@@ -16,7 +15,7 @@ use mir.Facts.{toZ-ofZ}
 use Rattle.level.specs.Logarithm.{number, lev}
 use Rattle.crossing.specs.declared.Levels.{Levels}
 use Rattle.crossing.specs.declared.Found.the-variants.{At, Below, Above}
-use Rattle.crossing.specs.Crossing.{isCrossing, lowestFrom, crossing, lowerOf, activeLevel}
+use Rattle.crossing.specs.Crossing.{isCrossing, crossing, lowerOf, activeLevel}
 use Rattle.crossing.specs.Found.{Searched, steps, said, searched, levelsFor, levelsAt, noLevels, crossingIn, firstExcess}
 use Rattle.crossing.specs.Inner.{Power, Small, placeOf}
 use Rattle.crossing.specs.Levels.{longTerm, activeAt, excess, levelOfThreshold}

@@ -1,7 +1,7 @@
 -- Each answer is the definition's, by the tests that led to it.
 use borrow.Author.Needs.{needs}
 use borrow.Author.Tests.{ltb-true, ltb-false}
-use mathlib.Core.Path.{_≡_, sym, ap, _∙_, subst}
+use mathlib.Core.Path.{sym, ap, _∙_}
 use native.Mathlib.Omega.{arith}
 use Prim.Native.Nat.{_+_, _*_, _^_, _≤_}
 use Rattle.level.specs.Logarithm.{levelOf}

@@ -3,7 +3,6 @@ use mathlib.Core.Path.{_≡_, subst}
 use Prim.Native.Nat.{ℕ, suc, _-_, _^_, _≤_, _<_}
 use native.Mathlib.Omega.{arith}
 use lib.Count.{leadingZeros, leading-le, leading-top}
-use Rattle.level.specs.Logarithm.{placeUpTo}
 use Rattle.level.proofs.Laws.{Place, word-place-is, place-zero}
 use Rattle.level.proofs.top_place.Statement.{statement}
 use Rattle.level.proofs.top_place.Tie as tie

@@ -1,7 +1,7 @@
 -- The invariant: each sum is the definition's over the words so far, and small.
 use borrow.Author.Needs.{needs}
-use mathlib.Core.Path.{_≡_, refl, sym, ap, _∙_}
-use Prim.Native.Nat.{ℕ, _+_, _-_, _*_, _%_, _≤_, _<_}
+use mathlib.Core.Path.{_≡_, ap, _∙_}
+use Prim.Native.Nat.{ℕ, _-_, _*_, _%_, _≤_}
 use native.Mathlib.Omega.{arith}
 use Rattle.block.specs.Block.{word, sumBelow, checkSum, weightedSum}
 use Rattle.block.proofs.Numbers.{sum-zero, sum-more, weight-small}

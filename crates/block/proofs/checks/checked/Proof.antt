@@ -1,5 +1,5 @@
 -- The stored words are held to the sums.
-use mathlib.Core.Path.{_≡_, sym, ap₂, _∙_}
+use mathlib.Core.Path.{sym, ap₂, _∙_}
 use lib.Dec.{eqb}
 use Rattle.block.proofs.Conditions.{first-off, first-right}
 use borrow.Author.Needs.{needs}

@@ -1,7 +1,7 @@
 -- The invariant: the bytes that are left are zero just where all of them are.
 use borrow.Author.Needs.{needs}
 use mathlib.Core.Path.{_≡_, refl, sym, ap, _∙_}
-use Prim.Native.Nat.{_+_, _-_, _≤_, _<_}
+use Prim.Native.Nat.{_+_, _-_, _≤_}
 use native.Mathlib.Omega.{arith}
 use Rattle.block.specs.Refusals.{zeros}
 use Rattle.block.proofs.Numbers.{zeros-end, zeros-stop, zeros-on}

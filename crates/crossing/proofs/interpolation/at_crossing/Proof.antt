@@ -1,14 +1,14 @@
 -- Where the difference is 0 the level is A_j; else the sizes of the differences give the definition's whole part.
 use borrow.Author.Needs.{needs}
-use mathlib.Core.Bool.{true, false}
+use mathlib.Core.Bool.{false}
 use mathlib.Core.Path.{_≡_, ap, ap₂, _∙_, subst, sym}
-use Prim.Native.Nat.{ℕ, _+_, _-_, _*_, _/_, _^_, _≤_, _<_}
+use Prim.Native.Nat.{ℕ, _-_, _^_, _≤_, _<_}
 use native.Mathlib.Nat.{le-trans}
 use native.Mathlib.Omega.{arith}
-use lib.IntN.{ℤ, pos, natAbs, _+ℤ_, _-ℤ_}
+use lib.IntN.{ℤ, pos, natAbs, _-ℤ_}
 use lib.ListN.{getD}
 use Rattle.level.specs.Logarithm.{lev}
-use Rattle.crossing.specs.Crossing.{isZero, isCrossing, lowerOf, activeLevel}
+use Rattle.crossing.specs.Crossing.{isZero, lowerOf, activeLevel}
 use Rattle.crossing.specs.Inner.{Small}
 use Rattle.crossing.specs.Levels.{activeAt, excess, levelOfThreshold}
 use Rattle.crossing.proofs.Bounds.{alive}

@@ -6,7 +6,7 @@ use native.Mathlib.Nat.{mul-le-mul, le-trans, div-le-self}
 use native.Mathlib.Omega.{arith}
 use lib.IntN.{ℤ, pos, natAbs, _+ℤ_, _-ℤ_}
 use mir.Syntax.{w64}
-use mir.Val.{Fits, SFits, toZ, ofZ}
+use mir.Val.{SFits, toZ, ofZ}
 use mir.Facts.{toZ-ofZ, toZ-pos}
 use Rattle.signed.proofs.Sizes.{abs-minus}
 use Rattle.crossing.specs.Inner.{Small}

@@ -1,14 +1,13 @@
 -- Each difference is small, so each fits.
 use borrow.Author.Needs.{needs}
 use mathlib.Core.Path.{_≡_, ap, ap₂, _∙_, subst, sym}
-use Prim.Native.Nat.{ℕ, _*_, _^_, _≤_, _<_}
+use Prim.Native.Nat.{_*_, _^_, _≤_, _<_}
 use native.Mathlib.Omega.{arith}
 use lib.IntN.{ℤ, pos, natAbs, _-ℤ_}
 use mir.Syntax.{w64}
 use mir.Val.{toZ}
 use mir.Facts.{toZ-pos}
 use Rattle.signed.proofs.Sizes.{abs-minus}
-use Rattle.level.specs.Logarithm.{lev}
 use Rattle.crossing.specs.Inner.{Small}
 use Rattle.crossing.proofs.Sizes.{lev-max, word}
 use Rattle.crossing.proofs.steps.excess.Statement.{statement}

@@ -1,20 +1,14 @@
 -- One rule after another, left at the first that applies.
 use borrow.Author.Needs.{needs}
 use borrow.Author.Tests.{lt-ltb, le-ltb}
-use mathlib.Core.Bool.{true, false, not}
-use mathlib.Core.List.{[], _∷_}
-use mathlib.Core.Option.{some}
-use mathlib.Core.Path.{_≡_, refl, sym, ap, _∙_, subst}
-use Prim.Native.Nat.{ℕ, _+_, _*_, _^_, _≤_, _<_}
+use mathlib.Core.Path.{sym, ap, _∙_}
 use native.Mathlib.Omega.{arith}
-use lib.ListN.{length, getD}
-use Rattle.meter.proofs.Handing.{refusal, acceptance, beyond, Usable, usable, ready, unusable}
-use Rattle.meter.specs.Calls.{handedBy, handed, afterSamples, openCall, chunkCall, fresh, zeroMeter}
-use Rattle.meter.specs.Inner.{takenBy, usableRate}
-use Rattle.meter.specs.Refusals.{openRules, chunkRules, impossible, longChunk, tooMany, unnamedCode}
+use Rattle.meter.proofs.Handing.{refusal, beyond, Usable, usable, ready, unusable}
+use Rattle.meter.specs.Calls.{chunkCall}
+use Rattle.meter.specs.Inner.{takenBy}
+use Rattle.meter.specs.Refusals.{chunkRules, impossible, longChunk}
 use Rattle.rate.specs.Rates.{named}
-use Rattle.refusal.proofs.Laws.{here, past, none}
-use Rattle.refusal.specs.Number.{numberGiven, numberOf}
+use Rattle.refusal.proofs.Laws.{here, past}
 use Rattle.meter.proofs.Meter.chunk.Statement.{statement}
 use Rattle.meter.proofs.Meter.chunk.Tie as tie
 

@@ -1,21 +1,17 @@
 -- A named code is accepted; any other gets the one rule of opening.
 use borrow.Author.Needs.{needs}
-use borrow.Author.Tests.{lt-ltb, le-ltb}
-use mathlib.Core.Bool.{true, false, not}
-use mathlib.Core.List.{[], _∷_}
-use mathlib.Core.Path.{_≡_, refl, sym, ap, _∙_, subst}
-use Prim.Native.Nat.{ℕ, _+_, _*_, _^_, _≤_, _<_}
+use mathlib.Core.Bool.{not}
+use mathlib.Core.List.{[]}
+use mathlib.Core.Path.{sym, ap, _∙_}
 use native.Mathlib.Omega.{arith}
-use lib.ListN.{length, getD}
-use Rattle.meter.proofs.Handing.{refusal, acceptance, beyond, Usable, usable, ready, unusable}
-use Rattle.meter.specs.Calls.{handedBy, handed, afterSamples, openCall, chunkCall, fresh, zeroMeter}
+use Rattle.meter.proofs.Handing.{refusal, acceptance}
+use Rattle.meter.specs.Calls.{handedBy, openCall, fresh, zeroMeter}
 use Rattle.meter.specs.Inner.{refusedWith, freshAt}
-use Rattle.meter.specs.Refusals.{openRules, chunkRules, impossible, longChunk, tooMany, unnamedCode}
+use Rattle.meter.specs.Refusals.{openRules, unnamedCode}
 use Rattle.meter.specs.Settings.{iOf}
 use Rattle.rate.proofs.Laws.{named-as, named-nothing, is-named, is-not-named, row-is}
 use Rattle.rate.specs.declared.Rate.{Rate}
 use Rattle.refusal.proofs.Laws.{here, past, none}
-use Rattle.refusal.specs.Number.{numberGiven, numberOf}
 use Rattle.meter.proofs.Meter.open.Statement.{statement}
 use Rattle.meter.proofs.Meter.open.Tie as tie
 

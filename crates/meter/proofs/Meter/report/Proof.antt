@@ -1,6 +1,6 @@
 -- Refusal 2, or the report on a meter that it lets pass.
 use borrow.Author.Needs.{needs}
-use mathlib.Core.Path.{_≡_, sym, ap, _∙_}
+use mathlib.Core.Path.{sym, ap, _∙_}
 use native.Mathlib.Omega.{arith}
 use Rattle.rate.specs.Rates.{named}
 use Rattle.refusal.proofs.Laws.{here}

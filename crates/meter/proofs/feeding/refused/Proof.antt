@@ -1,8 +1,6 @@
 -- The answer's number is the refusal's.
-use borrow.Author.Needs.{needs}
-use mathlib.Core.Path.{_≡_, refl}
+use mathlib.Core.Path.{refl}
 use Rattle.meter.specs.Calls.{handedBy}
-use Rattle.refusal.specs.Number.{numberGiven}
 use Rattle.meter.proofs.feeding.refused.Statement.{statement}
 use Rattle.meter.proofs.feeding.refused.Tie as tie
 

@@ -1,22 +1,20 @@
 -- A meter that refusal 2 lets pass is within the bounds of a sample.
 use borrow.Author.Needs.{needs}
 use borrow.Author.Tests.{lt-ltb, le-ltb}
-use mathlib.Core.Bool.{true, false, not}
 use mathlib.Core.List.{[], _∷_}
-use mathlib.Core.Path.{_≡_, refl, sym, ap, ap₂, _∙_, subst}
-use Prim.Native.Nat.{ℕ, _+_, _*_, _^_, _≤_, _<_}
+use mathlib.Core.Path.{sym, ap, ap₂, _∙_, subst}
+use Prim.Native.Nat.{ℕ, _+_, _^_, _≤_, _<_}
 use native.Mathlib.Omega.{arith}
 use lib.ListN.{length, getD}
-use Rattle.meter.proofs.Handing.{refusal, acceptance, beyond, Usable, usable, ready, unusable}
+use Rattle.meter.proofs.Handing.{refusal, acceptance}
 use Rattle.meter.proofs.Possible.{Possible, possible}
-use Rattle.meter.specs.Calls.{handedBy, handed, afterSamples, openCall, chunkCall, fresh, zeroMeter}
+use Rattle.meter.specs.Calls.{handedBy, afterSamples}
 use Rattle.meter.specs.Inner.{takenBy, refusedWith}
-use Rattle.meter.specs.Refusals.{openRules, chunkRules, impossible, longChunk, tooMany, unnamedCode}
-use Rattle.meter.specs.Settings.{kOf, iOf}
+use Rattle.meter.specs.Refusals.{tooMany}
+use Rattle.meter.specs.Settings.{kOf}
 use Rattle.meter.specs.declared.Meter.{Meter}
 use Rattle.rate.proofs.Laws.{row-keeps}
 use Rattle.refusal.proofs.Laws.{here, past, none}
-use Rattle.refusal.specs.Number.{numberGiven, numberOf}
 use Rattle.sample.specs.Sample.{samples}
 use Rattle.sample.specs.declared.State.{State}
 use Rattle.sample.specs.Runs.{BoundedSums}

@@ -1,6 +1,5 @@
 -- The code's lists are the definition's.
-use borrow.Author.Needs.{needs}
-use mathlib.Core.Path.{_≡_, refl}
+use mathlib.Core.Path.{refl}
 use Rattle.meter.specs.Inner.{freshAt}
 use Rattle.sample.specs.Sample.{freshState, fifteen, listFrom, words}
 use Rattle.meter.proofs.opening.fresh.Statement.{statement}

@@ -1,20 +1,19 @@
 -- One rule after another; then the rules of the speech, by what the search for a crossing found.
 use borrow.Author.Needs.{needs}
 use borrow.Author.Tests.{ne-eqb, eq-eqb, eqb-false}
-use mathlib.Core.Path.{_≡_, sym, ap, _∙_, subst}
-use Prim.Native.Nat.{ℕ, _+_, _*_, _^_, _≤_, _<_}
+use mathlib.Core.Path.{_≡_, sym, ap, _∙_}
+use Prim.Native.Nat.{ℕ, _≤_}
 use native.Mathlib.Omega.{arith}
-use lib.Dec.{eqb}
 use lib.ListN.{getD}
 use Rattle.level.specs.Logarithm.{number}
 use Rattle.refusal.proofs.Laws.{here, past}
 use Rattle.crossing.specs.Found.{said}
-use Rattle.crossing.specs.Inner.{Falling, Measured}
+use Rattle.crossing.specs.Inner.{Measured}
 use Rattle.meter.specs.declared.Meter.{Meter}
 use Rattle.meter.specs.Refusals.{impossible}
 use Rattle.meter.specs.Reports.{noSamples, noSignal, noActivity, reportRules}
 use Rattle.meter.proofs.Finding.{Tested, no-report, at-levels, at-below, at-above}
-use Rattle.meter.proofs.Possible.{Possible, possible}
+use Rattle.meter.proofs.Possible.{possible}
 use Rattle.meter.proofs.reporting.measured.Statement.{statement}
 use Rattle.meter.proofs.reporting.measured.Tie as tie
 

@@ -1,11 +1,11 @@
 -- The fields are the meter's, and the counts are the definition's.
 use borrow.Author.Needs.{needs}
 use mathlib.Core.List.{List}
-use mathlib.Core.Path.{_≡_, ap₂}
+use mathlib.Core.Path.{ap₂}
 use lib.IntN.{ℤ}
 use mir.Facts.{toZ-ofZ}
 use Rattle.level.specs.declared.Samples.{Samples}
-use Rattle.meter.specs.Calls.{HandedReport, reportedBy}
+use Rattle.meter.specs.Calls.{reportedBy}
 use Rattle.meter.specs.Inner.{reportedWith}
 use Rattle.meter.specs.Reports.{samplesOf}
 use Rattle.meter.proofs.reporting.reported.Statement.{statement}

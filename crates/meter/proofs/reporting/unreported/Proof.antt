@@ -1,5 +1,5 @@
 -- The code's report is the one of all zeros.
-use mathlib.Core.Path.{_≡_, refl}
+use mathlib.Core.Path.{refl}
 use Rattle.crossing.specs.Found.{noLevels}
 use Rattle.sample.specs.Sample.{fifteen, listFrom, words}
 use Rattle.meter.specs.Calls.{reportedBy}

@@ -1,13 +1,12 @@
 -- The conditions of refusal 2 in the order of the code are those of the definition.
 use borrow.Author.Needs.{needs}
-use mathlib.Core.Bool.{Bool, true, false, not, cond, _||_}
-use mathlib.Core.Option.{Option, none, some}
-use mathlib.Core.Path.{_≡_, refl, sym, ap, ap₂, _∙_, subst}
+use mathlib.Core.Bool.{Bool, true, false, not, _||_}
+use mathlib.Core.Option.{none, some}
+use mathlib.Core.Path.{_≡_, sym, ap, ap₂, _∙_}
 use Prim.Native.Nat.{ℕ, _^_}
 use lib.Dec.{ltb}
 use Rattle.rate.specs.declared.Rate.{Rate}
-use Rattle.rate.specs.declared.Named.the-variants.{As, Nothing}
-use Rattle.rate.specs.Rates.{named, rateOf, isNamed}
+use Rattle.rate.specs.Rates.{named, rateOf}
 use Rattle.rate.proofs.Laws.{named-as, named-nothing, is-named, is-not-named, row-is}
 use Rattle.meter.specs.declared.Meter.{Meter}
 use Rattle.meter.specs.Inner.{usableRate, largeSums, wrongCounters}

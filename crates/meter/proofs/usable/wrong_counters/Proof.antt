@@ -1,6 +1,6 @@
 -- One test after another, left at the first that holds.
 use borrow.Author.Needs.{needs}
-use mathlib.Core.Path.{_≡_, sym, _∙_}
+use mathlib.Core.Path.{sym, _∙_}
 use Rattle.meter.specs.Inner.{wrongCounters}
 use Rattle.meter.proofs.Chains.{stop, go-on}
 use Rattle.meter.proofs.usable.wrong_counters.Statement.{statement}

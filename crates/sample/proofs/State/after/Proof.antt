@@ -2,7 +2,7 @@
 use borrow.Author.Needs.{needs}
 use mathlib.Core.List.{List, [], _∷_}
 use mathlib.Core.Path.{_≡_, refl, ap, _∙_, subst, sym}
-use Prim.Native.Nat.{ℕ, suc, _+_, _-_, _^_, _≤_, _<_}
+use Prim.Native.Nat.{ℕ, _+_, _-_, _^_, _≤_, _<_}
 use native.Mathlib.Omega.{arith}
 use lib.IntN.{ℤ, pos}
 use lib.ListN.{length, getD, drop}
@@ -12,7 +12,7 @@ use mir.Val.{SFits}
 use mir.Facts.{toZ-ofZ}
 use Rattle.sample.specs.declared.State.{State}
 use Rattle.sample.specs.Sample.{summed, samples}
-use Rattle.sample.specs.Runs.{BoundedSums, stateOf}
+use Rattle.sample.specs.Runs.{BoundedSums}
 use Rattle.sample.proofs.Fifteen.{at-or-past}
 use Rattle.sample.proofs.Kept.{sums-kept}
 use Rattle.sample.proofs.Ran.{Turning, room-left, count-room, turned}

@@ -4,10 +4,9 @@ use mathlib.Core.Logic.{_⊎_, inl, inr}
 use mathlib.Core.Path.{_≡_, ap, _∙_, subst, sym}
 use Prim.Native.Nat.{ℕ, suc, _+_, _*_, _%_, _^_, _≤_, _<_}
 use native.Mathlib.Decide.{decLe}
-use native.Mathlib.Nat.{le-trans, lt-of-not-le, lt-of-le-of-lt, lt-of-lt-of-le, two-pow-succ, one-mul, mod-eq-of-lt}
+use native.Mathlib.Nat.{lt-of-not-le, lt-of-le-of-lt, two-pow-succ, one-mul, mod-eq-of-lt}
 use native.Mathlib.Omega.{arith}
 use lib.Pow.{pow-mono}
-use Rattle.level.specs.Logarithm.{placeUpTo}
 use Rattle.level.proofs.Laws.{Place, word-place, pow-lt-cancel}
 use Rattle.sample.specs.Envelope.{threshold}
 use Rattle.sample.specs.Runs.{Clear}

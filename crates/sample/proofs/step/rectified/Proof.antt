@@ -1,6 +1,6 @@
 -- In 64 bits every sample of 16 has its magnitude.
 use borrow.Author.Needs.{needs}
-use mathlib.Core.Path.{_≡_, ap, _∙_, subst, sym}
+use mathlib.Core.Path.{ap, _∙_, subst, sym}
 use Prim.Native.Nat.{ℕ, _^_, _≤_}
 use lib.IntN.{natAbs}
 use mir.Syntax.{w64}
