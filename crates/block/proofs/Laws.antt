@@ -1,20 +1,20 @@
 -- What the crates above know of a block: what soundness is in terms of the rules, what its part is, and what the host is told.
-use mathlib.Core.Bool.{Bool, true, false, cond, not, _&&_, and-false}
+use mathlib.Core.Bool.{Bool, true, false, cond, not, and-false}
 use mathlib.Core.List.{List, [], _∷_}
 use mathlib.Core.Logic.{_↔_}
-use mathlib.Core.Path.{_≡_, refl, sym, ap, ap₂, subst, _∙_}
+use mathlib.Core.Path.{_≡_, refl, sym, ap, ap₂, _∙_}
 use Prim.Native.Nat.{ℕ, zero, suc, _+_, _-_, _*_, _^_, _≤_, _<_}
 use native.Mathlib.Omega.{arith}
 use native.Mathlib.Nat.{add-assoc}
 use borrow.Author.Tests.{eqb-true, ltb-true, ltb-false, leb-true, not-true, not-false}
-use lib.Dec.{ltb, T}
+use lib.Dec.{ltb}
 use lib.IntN.{pos, negℤ}
 use mir.Syntax.{w16}
 use mir.Val.{SFits}
 use lib.ListN.{length, take, drop, length-drop}
 use lib.Seq.{getD-take, getD-drop, length-take-le}
 use Rattle.refusal.specs.First.{firstOf}
-use Rattle.refusal.proofs.Laws.{past, cleared}
+use Rattle.refusal.proofs.Laws.{past, cleared, both}
 use Rattle.rate.specs.Rates.{isNamed}
 use Rattle.block.specs.Block.{number, rateCode, count, signed, samplesAt, samples}
 use Rattle.block.specs.Refusals.{wrongLength, wrongCheck, wrongKind, wrongRate, wrongCount, usedUnused, blockRules, sound, samplesPart, hostCheck}
@@ -29,10 +29,6 @@ pub record Sound (b : List ℕ) : Type 0 where
   pub count-ok : wrongCount b ≡ false
   pub unused-ok : usedUnused b ≡ false
   pub named : isNamed (rateCode b) ≡ true
-
-both : (x y : Bool) → x && y ≡ true → (x ≡ true) × (y ≡ true)
-both true y h = (refl, h)
-both false y h = absurd (subst T (sym h) tt)
 
 no : (x : Bool) → not x ≡ true → x ≡ false
 no x h = not-true x h

@@ -8,6 +8,7 @@ use borrow.Author.Tests.{ltb-true, ltb-false, le-leb, lt-leb, leb-true, eqb-true
 use lib.Dec.{T, eqb, leb, ltb}
 use lib.IntN.{ℤ}
 use lib.ListN.{length, getD}
+use Rattle.refusal.proofs.Laws.{both}
 use Rattle.rate.specs.Rates.{rowOf, isNamed}
 use Rattle.rate.proofs.Laws.{row-keeps}
 use Rattle.refusal.specs.First.{firstOf}
@@ -144,10 +145,6 @@ block-length : (b : List ℕ) (at k : ℕ) → length (samplesAt b at k) ≡ k
 unfolding samplesAt
 block-length b at zero = refl
 block-length b at (suc k) = ap suc (block-length b (at + 2) k)
-
-both : (x y : Bool) → x && y ≡ true → (x ≡ true) × (y ≡ true)
-both true y h = (refl, h)
-both false y h = absurd (subst T (sym h) tt)
 
 good-taken : (m : Meter) (e : E) (g : Good m e) (call : Call) → Typed (call ∷ []) → accepts e call ≡ true
     → Good (afterSamples m (samplesOf call)) (takeAll e (samplesOf call))

@@ -1,7 +1,7 @@
 -- Some place below k, and none: `someBelow` from its places, and one place more.
 use mathlib.Core.Bool.{Bool, true, false, _||_}
 use mathlib.Core.Logic.{⊎-elim}
-use mathlib.Core.Path.{_≡_, refl, sym, ap, _∙_, subst}
+use mathlib.Core.Path.{_≡_, refl, sym, ap, ap₂, _∙_, subst}
 use Prim.Native.Nat.{ℕ, zero, suc, _+_, _<_}
 use native.Mathlib.Nat.{eq-or-lt-of-le, le-of-suc-le-suc, not-suc-le-zero, le-suc, lt-of-lt-of-le}
 use native.Mathlib.Numerals.{add-one}
@@ -40,3 +40,8 @@ some-below f j (suc k) e l =
 pub one-more : (f : ℕ → Bool) (j : ℕ) → someBelow j f ≡ false → f j ≡ false → someBelow (j + 1) f ≡ false
 unfolding someBelow
 one-more f j a b = ap (λ (k : ℕ). someBelow k f) (add-one j) ∙ ap (λ (x : Bool). x || f j) a ∙ b
+
+pub same-below : (k : ℕ) (f g : ℕ → Bool) → ((j : ℕ) → f j ≡ g j) → someBelow k f ≡ someBelow k g
+unfolding someBelow
+same-below zero f g h = refl
+same-below (suc k) f g h = ap₂ (λ (x y : Bool). x || y) (same-below k f g h) (h k)

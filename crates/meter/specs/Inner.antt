@@ -36,8 +36,8 @@ unfoldable pub wrongCounters : (I : ℕ) → State → Bool
 wrongCounters I m =
     someBelow 15 (λ j. ltb I (getD (m .h) j 0))
     || (someBelow 15 (λ j. ltb (m .sums .n) (getD (m .a) j 0))
-    || (someBelow 14 (λ j. ltb (getD (m .a) j 0) (getD (m .a) (j + 1) 0))
-    || someBelow 14 (λ j. ltb (getD (m .h) (j + 1) 0) (getD (m .h) j 0))))
+    || (someBelow 14 (λ j. ltb (getD (m .a) (j + 0) 0) (getD (m .a) (j + 1) 0))
+    || someBelow 14 (λ j. ltb (getD (m .h) (j + 1) 0) (getD (m .h) (j + 0) 0))))
 
 -- the meter that has taken no sample, with any I
 unfoldable pub freshAt : Setting → (I : ℕ) → Meter

@@ -81,10 +81,10 @@ fn wrong_counters(state: State, i: u64) -> bool
     if some_above(&a, state.sums.n) {
         return true;
     }
-    if some_below_next(&a) {
+    if some_below(&a, 0, 1) {
         return true;
     }
-    some_above_next(&h)
+    some_below(&h, 1, 0)
 }
 
 // Whether one of the fifteen is above a number.
@@ -101,27 +101,14 @@ fn some_above(x: &[u64; 15], most: u64) -> bool
     false
 }
 
-// Whether one is below the next.
-fn some_below_next(x: &[u64; 15]) -> bool
-    ensures { λ r. ⌜ r ≡ someBelow 14 (λ j. ltb (getD (now (x .entry)) j 0) (getD (now (x .entry)) (j + 1) 0)) ⌝ }
+// Whether one is below another, where the two stand at most one place apart.
+fn some_below(x: &[u64; 15], one: usize, other: usize) -> bool
+    requires { ⌜ (one ≤ 1) × (other ≤ 1) ⌝ }
+    ensures { λ r. ⌜ r ≡ someBelow 14 (λ j. ltb (getD (now (x .entry)) (j + one) 0) (getD (now (x .entry)) (j + other) 0)) ⌝ }
 {
     let mut j = 0;
     while j < 14 {
-        if x[j] < x[j + 1] {
-            return true;
-        }
-        j += 1;
-    }
-    false
-}
-
-// Whether one is above the next.
-fn some_above_next(x: &[u64; 15]) -> bool
-    ensures { λ r. ⌜ r ≡ someBelow 14 (λ j. ltb (getD (now (x .entry)) (j + 1) 0) (getD (now (x .entry)) j 0)) ⌝ }
-{
-    let mut j = 0;
-    while j < 14 {
-        if x[j + 1] < x[j] {
+        if x[j + one] < x[j + other] {
             return true;
         }
         j += 1;

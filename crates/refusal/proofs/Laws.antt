@@ -63,7 +63,8 @@ only-where (r ∷ rest) h = go (r .1) h (λ k. only-where rest k)
     go true k f = simp (eq-eqb (r .0) (r .0) refl)
     go false k f = simp (and-false, f k)
 
-both : (x y : Bool) → x && y ≡ true → (x ≡ true) × (y ≡ true)
+-- both of two tests that hold together
+pub both : (x y : Bool) → x && y ≡ true → (x ≡ true) × (y ≡ true)
 both true y h = (refl, h)
 both false y h = absurd (subst T (sym h) tt)
 

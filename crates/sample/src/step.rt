@@ -10,7 +10,7 @@ use crate::Sums;
 use level::Squares;
 
 impl Sums {
-    pub fn step(self, k: u64, x: i16) -> Sums
+    pub(crate) fn step(self, k: u64, x: i16) -> Sums
         requires { ⌜ BoundedSums self ⌝ }
         requires { ⌜ (k ≤ 2 ^ 20) × (self .n < 2 ^ 48) ⌝ }
         ensures { λ r. ⌜ r ≡ summed k self x ⌝ }

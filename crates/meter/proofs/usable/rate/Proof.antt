@@ -3,26 +3,38 @@ use borrow.Author.Needs.{needs}
 use mathlib.Core.Bool.{Bool, true, false, not, _||_}
 use mathlib.Core.Option.{none, some}
 use mathlib.Core.Path.{_≡_, sym, ap, ap₂, _∙_}
-use Prim.Native.Nat.{ℕ, _^_}
+use Prim.Native.Nat.{ℕ, _+_, _^_}
+use native.Mathlib.Nat.{add-zero}
 use lib.Dec.{ltb}
+use lib.ListN.{getD}
 use Rattle.rate.specs.declared.Rate.{Rate}
 use Rattle.rate.specs.Rates.{named, rateOf}
 use Rattle.rate.proofs.Laws.{named-as, named-nothing, is-named, is-not-named, row-is}
 use Rattle.meter.specs.declared.Meter.{Meter}
 use Rattle.meter.specs.Inner.{usableRate, largeSums, wrongCounters}
-use Rattle.meter.specs.Refusals.{unnamedCode, unnamedSetting, manySamples, largeSum, largeSquares, largeEnvelope, longHangover, largeCount, risingCounts, fallingHangovers, impossible}
+use Rattle.meter.specs.Refusals.{someBelow, unnamedCode, unnamedSetting, manySamples, largeSum, largeSquares, largeEnvelope, longHangover, largeCount, risingCounts, fallingHangovers, impossible}
 use Rattle.meter.specs.Settings.{iOf}
+use Rattle.meter.proofs.Below.{same-below}
 use Rattle.meter.proofs.Chains.{regroup}
 use Rattle.meter.proofs.usable.rate.Statement.{statement}
 use Rattle.meter.proofs.usable.rate.Tie as tie
 
 -- ---- over the definitions
 
+rising-is : (m : Meter) → risingCounts m ≡ someBelow 14 (λ j. ltb (getD (m .state .a) (j + 0) 0) (getD (m .state .a) (j + 1) 0))
+unfolding risingCounts
+rising-is m = same-below 14 _ _ (λ j. ap (λ (i : ℕ). ltb (getD (m .state .a) i 0) (getD (m .state .a) (j + 1) 0)) (sym (add-zero j)))
+
+falling-is : (m : Meter) → fallingHangovers m ≡ someBelow 14 (λ j. ltb (getD (m .state .h) (j + 1) 0) (getD (m .state .h) (j + 0) 0))
+unfolding fallingHangovers
+falling-is m = same-below 14 _ _ (λ j. ap (λ (i : ℕ). ltb (getD (m .state .h) (j + 1) 0) (getD (m .state .h) i 0)) (sym (add-zero j)))
+
 grouped : (m : Meter) → impossible m ≡ unnamedSetting m || (largeSums (m .state .sums) || wrongCounters (iOf (m .setting)) (m .state))
-unfolding impossible manySamples largeSum largeSquares largeEnvelope longHangover largeCount risingCounts fallingHangovers largeSums wrongCounters
+unfolding impossible manySamples largeSum largeSquares largeEnvelope longHangover largeCount largeSums wrongCounters
 grouped m =
     regroup (unnamedSetting m) (manySamples m) (largeSum m) (largeSquares m) (ltb (2 ^ 39) (m .state .sums .p)) (ltb (2 ^ 39) (m .state .sums .q))
     (longHangover m) (largeCount m) (risingCounts m) (fallingHangovers m)
+    ∙ ap₂ (λ (r f : Bool). unnamedSetting m || (largeSums (m .state .sums) || (longHangover m || (largeCount m || (r || f))))) (rising-is m) (falling-is m)
 
 unusable : (m : Meter) → impossible m ≡ true → none ≡ usableRate m
 unfolding usableRate

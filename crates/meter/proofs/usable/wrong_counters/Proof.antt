@@ -20,24 +20,24 @@ returns-2 : tie.Need-returns-2
 unfolding wrongCounters
 returns-2 c = go-on _ _ (sym (c .before .before .before .before .some-above .ensures) ∙ c .before .before .before .if1 .left) (stop _ _ (sym (c .before .some-above2 .ensures) ∙ c .if2 .taken))
 
-some-below-next-requires : tie.Need-some-below-next-requires
-some-below-next-requires c κs = search needs
+some-below-requires : tie.Need-some-below-requires
+some-below-requires c κs = search needs
 
 returns-3 : tie.Need-returns-3
 unfolding wrongCounters
 returns-3 c =
     go-on _ _ (sym (c .before .before .before .before .before .before .before .some-above .ensures) ∙ c .before .before .before .before .before .before .if1 .left)
-    (go-on _ _ (sym (c .before .before .before .before .some-above2 .ensures) ∙ c .before .before .before .if2 .left) (stop _ _ (sym (c .before .some-below-next .ensures) ∙ c .if3 .taken)))
+    (go-on _ _ (sym (c .before .before .before .before .some-above2 .ensures) ∙ c .before .before .before .if2 .left) (stop _ _ (sym (c .before .some-below .ensures) ∙ c .if3 .taken)))
 
-some-above-next-requires : tie.Need-some-above-next-requires
-some-above-next-requires c κs = search needs
+some-below-requires-2 : tie.Need-some-below-requires-2
+some-below-requires-2 c κs = search needs
 
 returns-4 : tie.Need-returns-4
 unfolding wrongCounters
 returns-4 c =
     go-on _ _ (sym (c .before .before .before .before .before .before .before .before .before .some-above .ensures) ∙ c .before .before .before .before .before .before .before .before .if1 .left)
     (go-on _ _ (sym (c .before .before .before .before .before .before .some-above2 .ensures) ∙ c .before .before .before .before .before .if2 .left)
-    (go-on _ _ (sym (c .before .before .before .some-below-next .ensures) ∙ c .before .before .if3 .left) (c .some-above-next .ensures)))
+    (go-on _ _ (sym (c .before .before .before .some-below .ensures) ∙ c .before .before .if3 .left) (c .some-below2 .ensures)))
 
 pub wrong-counters-spec : {M : Type 1} → statement M
 wrong-counters-spec =
@@ -47,7 +47,7 @@ wrong-counters-spec =
     returns
     some-above-requires-2
     returns-2
-    some-below-next-requires
+    some-below-requires
     returns-3
-    some-above-next-requires
+    some-below-requires-2
     returns-4)
