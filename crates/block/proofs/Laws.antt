@@ -165,6 +165,16 @@ part-reads b h =
     ap (λ (p : List ℕ). samplesAt p 0 (count b)) (sym (part-some b h))
     ∙ samples-part b 12 (2 * count b) (count b) 0 (omega arith)
 
+-- as many as the count says
+pub samples-at-length : (b : List ℕ) (at k : ℕ) → length (samplesAt b at k) ≡ k
+unfolding samplesAt
+samples-at-length b at zero = refl
+samples-at-length b at (suc k) = ap suc (samples-at-length b (at + 2) k)
+
+pub samples-length : (b : List ℕ) → length (samples b) ≡ count b
+unfolding samples
+samples-length b = samples-at-length b 12 (count b)
+
 -- a sample is a signed 16-bit number
 pub signed-fits : (w : ℕ) → SFits w16 (signed w)
 unfolding signed

@@ -1,3 +1,4 @@
 mod Conditions
+mod Decoding
 pub mod Laws
 mod Numbers

@@ -1,15 +1,15 @@
--- Numbers of one byte and of two, and the loops over a block's bytes and words, a turn each.
+-- Numbers by their parts, and the loops over a block's bytes and words, a turn each.
 use mathlib.Core.Bool.{true, false, _&&_}
 use mathlib.Core.List.{List}
 use mathlib.Core.Path.{_≡_, refl, sym, ap, ap₂, _∙_}
 use Prim.Native.Nat.{ℕ, suc, _+_, _-_, _*_, _^_, _≤_, _<_}
 use native.Mathlib.Omega.{arith}
-use native.Mathlib.Nat.{mul-le-mul}
+use native.Mathlib.Nat.{mul-le-mul, add-assoc}
 use native.Mathlib.Numerals.{add-one}
 use borrow.Author.Tests.{eq-eqb, ne-eqb}
 use lib.Dec.{eqb}
 use lib.ListN.{getD}
-use Rattle.block.specs.Block.{number, kind, rateCode, count, sumBelow}
+use Rattle.block.specs.Block.{number, kind, rateCode, count, before, sumBelow}
 use Rattle.block.specs.Refusals.{zeros}
 
 pub one-byte : (b : List ℕ) (at : ℕ) → getD b at 0 ≡ number b at 1
@@ -19,6 +19,18 @@ one-byte b at = omega arith
 pub two-bytes : (b : List ℕ) (at : ℕ) → getD b at 0 + 256 * getD b (at + 1) 0 ≡ number b at 2
 unfolding number
 two-bytes b at = omega arith
+
+-- a number is its first two bytes and the rest
+low-two : (b : List ℕ) (at size : ℕ) → number b at 2 + 65536 * number b (at + 2) size ≡ number b at (suc (suc size))
+unfolding number
+low-two b at size = let e : number b (at + 1 + 1) size ≡ number b (at + 2) size = ap (λ (n : ℕ). number b n size) (add-assoc at 1 1) in omega arith
+
+pub four-bytes : (b : List ℕ) (at : ℕ) → number b at 2 + 65536 * number b (at + 2) 2 ≡ number b at 4
+four-bytes b at = low-two b at 2
+
+pub before-is : (b : List ℕ) → number b 4 4 + 4294967296 * number b 8 4 ≡ before b
+unfolding before
+before-is b = omega (arith, low-two b 4 6, low-two b 6 4, four-bytes b 4)
 
 pub kind-is : (b : List ℕ) → getD b 0 0 ≡ kind b
 unfolding kind

@@ -1,7 +1,8 @@
 // Sample blocks (document 01, "Sample blocks"): why one is refused, the part that carries its
 // samples, and the check that the line host calls.
 mod checks;
-mod fields;
+pub mod fields;
+pub mod samples;
 
 ghost use mathlib.Core.List.{[], _∷_};
 ghost use mathlib.Core.Path.{_≡_};

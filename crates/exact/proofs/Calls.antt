@@ -13,7 +13,7 @@ use Rattle.rate.specs.Rates.{rowOf, isNamed}
 use Rattle.rate.proofs.Laws.{row-keeps}
 use Rattle.refusal.specs.First.{firstOf}
 use Rattle.block.specs.Block.{number, rateCode, count, before, samplesAt, samples as samplesIn}
-use Rattle.block.proofs.Laws.{signed-fits}
+use Rattle.block.proofs.Laws.{signed-fits, samples-at-length}
 use Rattle.block.specs.Refusals.{wrongLength, wrongCheck, wrongKind, wrongRate, wrongCount, usedUnused, blockRules, sound}
 use Rattle.sample.specs.Sample.{freshState, samples}
 use Rattle.meter.specs.declared.Meter.{Meter}
@@ -141,18 +141,13 @@ unfolding samplesAt AllSamples
 block-samples b at zero = tt
 block-samples b at (suc k) = (signed-fits (number b at 2), block-samples b (at + 2) k)
 
-block-length : (b : List ℕ) (at k : ℕ) → length (samplesAt b at k) ≡ k
-unfolding samplesAt
-block-length b at zero = refl
-block-length b at (suc k) = ap suc (block-length b (at + 2) k)
-
 good-taken : (m : Meter) (e : E) (g : Good m e) (call : Call) → Typed (call ∷ []) → accepts e call ≡ true
     → Good (afterSamples m (samplesOf call)) (takeAll e (samplesOf call))
 unfolding accepts samplesOf Typed samplesIn
 good-taken m e g (chunk xs) f h = good-samples m e g xs (f .0) (leb-true _ _ (both (leb (length xs) 4096) _ h .1))
 good-taken m e g (block b) f h =
     good-samples m e g (samplesAt b 12 (count b)) (block-samples b 12 (count b))
-    (subst (λ (k : ℕ). e .y + k ≤ 2 ^ 48) (sym (block-length b 12 (count b))) (leb-true _ _ (both (sound b && eqb (rateCode b) (e .code) && eqb (before b) (e .y)) _ h .1)))
+    (subst (λ (k : ℕ). e .y + k ≤ 2 ^ 48) (sym (samples-at-length b 12 (count b))) (leb-true _ _ (both (sound b && eqb (rateCode b) (e .code) && eqb (before b) (e .y)) _ h .1)))
 
 -- what a call hands back, by its answer
 handed-meter : (m : Meter) (call : Call) → called m call .meter ≡ cond (eqb (called m call .number) 0) (afterSamples m (samplesOf call)) m

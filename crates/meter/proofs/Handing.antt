@@ -13,7 +13,7 @@ use Rattle.rate.proofs.Laws.{is-not-named, row-is}
 use Rattle.refusal.specs.First.{Rule, firstOf}
 use Rattle.meter.specs.declared.Meter.{Meter}
 use Rattle.meter.specs.Calls.{handed}
-use Rattle.meter.specs.Inner.{usableRate, Ready, refusedWith}
+use Rattle.meter.specs.Inner.{usableRate, Usable, Ready, refusedWith}
 use Rattle.meter.specs.Refusals.{impossible}
 use Rattle.meter.specs.Settings.{kOf, iOf}
 use Rattle.meter.proofs.Possible.{possible}
@@ -31,10 +31,6 @@ unfolding firstOf
 beyond k b rest a m e = sym (simp e)
 
 -- ---- the rate of a meter that refusal 2 lets pass, and of one that it does not
-
-pub record Usable (m : Meter) (r : Rate) : Type 0 where
-  pub possible-one : impossible m ≡ false
-  pub rate-is : rateOf (m .setting .code) ≡ some r
 
 pub usable : (m : Meter) (r : Rate) → usableRate m ≡ some r → Usable m r
 unfolding usableRate

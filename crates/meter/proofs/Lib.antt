@@ -1,4 +1,5 @@
 mod Below
+mod Blocks
 mod Chains
 mod Finding
 mod Handing

@@ -1,7 +1,7 @@
 -- What the functions inside this crate promise one another. Nothing here is part of what a meter promises.
 use mathlib.Core.Bool.{Bool, false, cond, _||_}
 use mathlib.Core.List.{List, [], _∷_, map}
-use mathlib.Core.Option.{Option, none}
+use mathlib.Core.Option.{Option, none, some}
 use mathlib.Core.Path.{_≡_}
 use Prim.Native.Nat.{ℕ, _+_, _*_, _^_, _≤_}
 use lib.Dec.{ltb}
@@ -42,6 +42,11 @@ wrongCounters I m =
 -- the meter that has taken no sample, with any I
 unfoldable pub freshAt : Setting → (I : ℕ) → Meter
 freshAt c I = record { setting = c; state = freshState I }
+
+-- a meter that refusal 2 lets pass, with its rate
+pub record Usable (m : Meter) (r : Rate) : Type 0 where
+  pub possible-one : impossible m ≡ false
+  pub rate-is : rateOf (m .setting .code) ≡ some r
 
 -- a meter, with its K and I, that new samples may be given to
 pub record Ready (m : Meter) (K I new : ℕ) : Type 0 where

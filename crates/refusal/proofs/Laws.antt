@@ -1,6 +1,6 @@
 -- What is given, rule by rule. `here`, `past` and `none` follow a call through its tests; `cleared` takes an accepted call apart.
 use mathlib.Core.Bool.{Bool, true, false, cond, _&&_, _||_, and-false}
-use mathlib.Core.List.{List, [], _∷_}
+use mathlib.Core.List.{List, [], _∷_, _++_}
 use mathlib.Core.Path.{_≡_, refl, sym, ap, subst, _∙_}
 use Prim.Native.Nat.{ℕ, suc, _≤_, _<_}
 use native.Mathlib.Nat.{le-of-eq, le-of-lt}
@@ -103,3 +103,26 @@ lowest-from n k (r ∷ rest) s a = go (r .1) refl a (λ b. lowest-from (r .0) k 
 
 pub lowest : (rules : List Rule) (k : ℕ) → rising 0 rules ≡ true → applies rules k ≡ true → (0 < firstOf rules) × (firstOf rules ≤ k)
 lowest rules k s a = lowest-from 0 k rules s a
+
+-- ---- two lists in one: the first decides where one of its rules applies, else the second
+
+pub append-first : (k : ℕ) (rules more : List Rule) → 0 < k → k ≡ firstOf rules → k ≡ firstOf (rules ++ more)
+unfolding firstOf
+append-first k [] more l e = absurd (omega arith)
+append-first k (r ∷ rest) more l e = go (r .1) e (λ h. append-first k rest more l h)
+  where
+    go : (b : Bool) → k ≡ cond b (r .0) (firstOf rest) → (k ≡ firstOf rest → k ≡ firstOf (rest ++ more)) → k ≡ cond b (r .0) (firstOf (rest ++ more))
+    go true h f = h
+    go false h f = f h
+
+pub append-past : (n : ℕ) (rules more : List Rule) → rising n rules ≡ true → 0 ≡ firstOf rules → firstOf more ≡ firstOf (rules ++ more)
+unfolding firstOf rising
+append-past n [] more s e = refl
+append-past n (r ∷ rest) more s e = go (r .1) e (λ h. append-past (r .0) rest more (p .1) h)
+  where
+    p : (ltb n (r .0) ≡ true) × (rising (r .0) rest ≡ true)
+    p = both _ _ s
+
+    go : (b : Bool) → 0 ≡ cond b (r .0) (firstOf rest) → (0 ≡ firstOf rest → firstOf more ≡ firstOf (rest ++ more)) → firstOf more ≡ cond b (r .0) (firstOf (rest ++ more))
+    go true h f = absurd (omega (arith, ltb-true n (r .0) (p .0)))
+    go false h f = f h

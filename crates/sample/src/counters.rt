@@ -1,7 +1,6 @@
 // The fifteen counters after a run.
 ghost use mathlib.Core.Path.{_≡_};
 ghost use Prim.Native.Nat.{ℕ, _+_, _≤_, _<_, _^_, min};
-ghost use lib.Dec.{leb};
 ghost use lib.ListN.{length, getD};
 ghost use Rattle.sample.specs.Runs.{countsOver, hangoversOver, countOver, hangoverOver};
 

@@ -3,9 +3,9 @@ use borrow.Author.Needs.{needs}
 use borrow.Author.Tests.{lt-ltb, le-ltb}
 use mathlib.Core.Path.{sym, ap, _∙_}
 use native.Mathlib.Omega.{arith}
-use Rattle.meter.proofs.Handing.{refusal, beyond, Usable, usable, ready, unusable}
+use Rattle.meter.proofs.Handing.{refusal, beyond, usable, ready, unusable}
 use Rattle.meter.specs.Calls.{chunkCall}
-use Rattle.meter.specs.Inner.{takenBy}
+use Rattle.meter.specs.Inner.{Usable, takenBy}
 use Rattle.meter.specs.Refusals.{chunkRules, impossible, longChunk}
 use Rattle.rate.specs.Rates.{named}
 use Rattle.refusal.proofs.Laws.{here, past}

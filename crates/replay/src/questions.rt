@@ -1,4 +1,5 @@
-// The records, each played by its own function, which answers whether the record was whole.
+// The records that need no meter, each played by its own function, which answers whether the record was
+// whole.
 use crate::input;
 use crate::input::Byte;
 use crate::input::Half;
@@ -6,16 +7,8 @@ use crate::input::Word;
 use level::Level;
 use level::Squares;
 
-pub fn played(kind: u8) -> bool {
-    match kind {
-        7 => lev(),
-        8 => check(),
-        _ => false,
-    }
-}
-
 // 7: the level of a number of two words.
-fn lev() -> bool {
+pub fn lev() -> bool {
     let Word::Is(high) = input::next_word() else {
         return false;
     };
@@ -32,7 +25,7 @@ fn lev() -> bool {
 }
 
 // 8: the C host's check of a block.
-fn check() -> bool {
+pub fn check() -> bool {
     let Byte::Is(code) = input::next_byte() else {
         return false;
     };
@@ -41,10 +34,10 @@ fn check() -> bool {
     };
     let mut buffer = io::large_buffer();
     let n = length as usize;
-    if !input::filled(&mut buffer[..n]) {
+    if !input::filled(&mut buffer, n) {
         return false;
     }
-    let number = block::hoggetwhirl_check_block(&buffer[..n], code as u32);
+    let number = block::hoggetwhirl_check_block(&buffer[0..n], input::code(code));
     print::words(b"check ");
     print::unsigned(number as u64);
     print::end_of_line();

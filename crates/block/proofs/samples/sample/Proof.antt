@@ -1,0 +1,49 @@
+-- The two halves of the two-byte numbers.
+use borrow.Author.Needs.{needs}
+use mathlib.Core.Path.{_≡_, sym, ap, _∙_, subst}
+use lib.IntN.{ℤ, pos, _-ℤ_}
+use mir.Syntax.{w16, w64}
+use mir.Val.{SFits, toZ, ofZ}
+use mir.Facts.{toZ-ofZ, toZ-pos, sfits-widen}
+use Rattle.block.specs.Block.{signed}
+use Rattle.block.proofs.Decoding.{upper, lower}
+use Rattle.block.proofs.Laws.{signed-fits}
+use Rattle.block.proofs.samples.sample.Statement.{statement}
+use Rattle.block.proofs.samples.sample.Tie as tie
+
+word-requires : tie.Need-word-requires
+word-requires c κs = search needs
+
+cast-result : tie.Need-cast-result
+cast-result c = search needs
+
+returns : tie.Need-returns
+returns c =
+    let w = c .before .word .result in
+    toZ-pos w16 (c .if1 .taken) ∙ upper w (c .if1 .taken) ∙ ap signed (c .before .word .ensures .0)
+
+cast-result-2 : tie.Need-cast-result-2
+cast-result-2 c = search needs
+
+-- the word less 2^16
+is : (c : tie.Else1) → toZ w64 (c .before .word .result) -ℤ pos 65536 ≡ signed (c .before .word .result)
+is c = lower (c .before .word .result) (c .if1 .left) (c .before .word .ensures .1)
+
+fits : (c : tie.Else1) → SFits w16 (toZ w64 (c .before .word .result) -ℤ pos 65536)
+fits c = subst (SFits w16) (sym (is c)) (signed-fits (c .before .word .result))
+
+sub-result : tie.Need-sub-result
+sub-result c = sfits-widen tt (fits c)
+
+cast-result-3 : tie.Need-cast-result-3
+cast-result-3 c = subst (SFits w16) (sym (toZ-ofZ (sfits-widen tt (fits c)))) (fits c)
+
+returns-2 : tie.Need-returns-2
+returns-2 c =
+    ap (λ (z : ℤ). toZ w16 (ofZ w16 z)) (toZ-ofZ (sfits-widen tt (fits c)))
+    ∙ toZ-ofZ (fits c)
+    ∙ is c
+    ∙ ap signed (c .before .word .ensures .0)
+
+pub sample-spec : {M : Type 1} → statement M
+sample-spec = tie.close (tie.spec word-requires cast-result returns cast-result-2 sub-result cast-result-3 returns-2)
