@@ -1,6 +1,6 @@
 -- Lists made from a function: what stands at each place.
 use mathlib.Core.Bool.{Bool, true, false}
-use mathlib.Core.List.{List, _∷_}
+use mathlib.Core.List.{List, [], _∷_}
 use mathlib.Core.Path.{_≡_, refl, sym, ap, ap₂, _∙_}
 use Prim.Native.Nat.{ℕ, zero, suc, _+_, _≤_, _<_}
 use native.Mathlib.Nat.{add-zero, le-of-suc-le-suc, not-suc-le-zero, zero-add}
@@ -29,14 +29,28 @@ pub fifteen-at : (f : ℕ → ℕ) (j : ℕ) → j < 15 → getD (fifteen f) j 0
 unfolding fifteen
 fifteen-at f j h = list-at f 0 15 j h ∙ ap f (zero-add j)
 
-list-same : (f g : ℕ → ℕ) → ((i : ℕ) → f i ≡ g i) → (j k : ℕ) → listFrom f j k ≡ listFrom g j k
+list-same : (f g : ℕ → ℕ) (n : ℕ) → ((i : ℕ) → i < n → f i ≡ g i) → (j k : ℕ) → j + k ≤ n → listFrom f j k ≡ listFrom g j k
 unfolding listFrom
-list-same f g e j zero = refl
-list-same f g e j (suc k) = ap₂ _∷_ (e j) (list-same f g e (j + 1) k)
+list-same f g n e j zero l = refl
+list-same f g n e j (suc k) l = ap₂ _∷_ (e j (omega arith)) (list-same f g n e (j + 1) k (omega arith))
 
-pub fifteen-same : (f g : ℕ → ℕ) → ((i : ℕ) → f i ≡ g i) → fifteen f ≡ fifteen g
+pub fifteen-same : (f g : ℕ → ℕ) → ((i : ℕ) → i < 15 → f i ≡ g i) → fifteen f ≡ fifteen g
 unfolding fifteen
-fifteen-same f g e = list-same f g e 0 15
+fifteen-same f g e = list-same f g 15 e 0 15 (omega arith)
+
+-- a list is its elements
+list-is : (l : List ℕ) (f : ℕ → ℕ) (j k : ℕ) → length l ≡ k → ((i : ℕ) → i < k → getD l i 0 ≡ f (j + i)) → l ≡ listFrom f j k
+unfolding listFrom
+list-is [] f j zero e g = refl
+list-is [] f j (suc k) e g = absurd (omega (arith, e))
+list-is (x ∷ l) f j zero e g = absurd (omega (arith, e))
+list-is (x ∷ l) f j (suc k) e g =
+    ap₂ _∷_ (g 0 (omega arith) ∙ ap f (add-zero j))
+    (list-is l f (j + 1) k (omega (arith, e)) (λ i h. g (suc i) (omega arith) ∙ ap f (omega arith)))
+
+pub is-fifteen : (l : List ℕ) (f : ℕ → ℕ) → 15 ≡ length l → ((i : ℕ) → i < 15 → getD l i 0 ≡ f i) → l ≡ fifteen f
+unfolding fifteen
+is-fifteen l f e g = list-is l f 0 15 (sym e) (λ i h. g i h ∙ ap f (sym (zero-add i)))
 
 -- past its end a list reads 0
 pub at-or-past : (l : List ℕ) (b : ℕ) → length l ≡ 15 → ((j : ℕ) → j < 15 → getD l j 0 ≤ b) → (j : ℕ) → getD l j 0 ≤ b

@@ -5,4 +5,6 @@ pub mod Front
 pub mod Kept
 mod Over
 mod Ran
+mod Settling
 pub mod Signs
+mod Turning

@@ -1,26 +1,72 @@
-// The fifteen counters after a run.
+// The fifteen counters. Each stands as it was at an index of its own, from which on the envelope has
+// been on one side of its threshold; settling brings it up to date.
+ghost use mathlib.Core.Bool.{_||_};
 ghost use mathlib.Core.Path.{_≡_};
-ghost use Prim.Native.Nat.{ℕ, _+_, _≤_, _<_, _^_, min};
-ghost use lib.ListN.{length, getD};
-ghost use Rattle.sample.specs.Runs.{countsOver, hangoversOver, countOver, hangoverOver};
+ghost use Prim.Native.Nat.{_+_, _≤_, _<_, _^_, min};
+ghost use lib.Dec.{ltb};
+ghost use Rattle.sample.specs.Runs.{Standing, Settled, between, countOver, hangoverOver};
 
-// Counts and hangovers after a run of samples, at least one, that left the envelope at q.
-pub fn count(a: &mut [u64; 15], h: &mut [u64; 15], q: u64, run: u64, i: u64)
-    requires { ⌜ (15 ≡ length (now a)) × (15 ≡ length (now h)) ⌝ }
-    requires { ⌜ 0 < run ⌝ }
-    requires { ⌜ ((j : ℕ) → (getD (now a) j 0 + run < 2 ^ 63) × (getD (now h) j 0 ≤ i)) ⌝ }
-    ensures { λ _. ⌜ now (a .exit) ≡ countsOver i q run (now (a .entry)) (now (h .entry)) ⌝ }
-    ensures { λ _. ⌜ now (h .exit) ≡ hangoversOver i q run (now (h .entry)) ⌝ }
+// The envelope, which was at or above so many of the thresholds, is now at or above so many: settles
+// the counters of those in between.
+pub fn cross(
+    a: &mut [u64; 15],
+    h: &mut [u64; 15],
+    since: &mut [u64; 15],
+    was: usize,
+    is: usize,
+    at: u64,
+    i: u64,
+)
+    requires { ⌜ Standing i at (now a) (now h) (now since) ⌝ }
+    requires { ⌜ (was ≤ 15) × (is ≤ 15) ⌝ }
+    ensures { λ _. ⌜ Settled i at (λ j. between was is j || between is was j) (λ j. ltb j was) (now (a .entry)) (now (h .entry)) (now (since .entry)) (now (a .exit)) (now (h .exit)) (now (since .exit)) ⌝ }
 {
-    let mut j = 0;
-    let mut c: u64 = 16777216;
-    while j < 15 {
+    settle(a, h, since, was, is, false, at, i);
+    settle(a, h, since, is, was, true, at, i);
+}
+
+// Settles all of them.
+pub fn finish(
+    a: &mut [u64; 15],
+    h: &mut [u64; 15],
+    since: &mut [u64; 15],
+    was: usize,
+    at: u64,
+    i: u64,
+)
+    requires { ⌜ Standing i at (now a) (now h) (now since) ⌝ }
+    requires { ⌜ was ≤ 15 ⌝ }
+    ensures { λ _. ⌜ Settled i at (λ j. between 0 was j || between was 15 j) (λ j. ltb j was) (now (a .entry)) (now (h .entry)) (now (since .entry)) (now (a .exit)) (now (h .exit)) (now (since .exit)) ⌝ }
+{
+    settle(a, h, since, 0, was, true, at, i);
+    settle(a, h, since, was, 15, false, at, i);
+}
+
+// Settles the counters from one place up to another, where the envelope was at or above their
+// thresholds, or below them.
+fn settle(
+    a: &mut [u64; 15],
+    h: &mut [u64; 15],
+    since: &mut [u64; 15],
+    from: usize,
+    to: usize,
+    on: bool,
+    at: u64,
+    i: u64,
+)
+    requires { ⌜ Standing i at (now a) (now h) (now since) ⌝ }
+    requires { ⌜ to ≤ 15 ⌝ }
+    ensures { λ _. ⌜ Settled i at (λ j. between from to j) (λ _. on) (now (a .entry)) (now (h .entry)) (now (since .entry)) (now (a .exit)) (now (h .exit)) (now (since .exit)) ⌝ }
+{
+    let mut j = from;
+    while j < to {
         let aj = a[j];
         let hj = h[j];
-        a[j] = counted(i, c <= q, run, aj, hj);
-        h[j] = hung(i, c <= q, run, hj);
+        let run = at - since[j];
+        a[j] = counted(i, on, run, aj, hj);
+        h[j] = hung(i, on, run, hj);
+        since[j] = at;
         j += 1;
-        c = c * 2;
     }
 }
 
@@ -33,12 +79,15 @@ fn counted(i: u64, on: bool, run: u64, a: u64, h: u64) -> u64
     if on { a + run } else { a + least(run, i - h) }
 }
 
-// A hangover after a run.
+// A hangover after a run. A run may be empty.
 fn hung(i: u64, on: bool, run: u64, h: u64) -> u64
-    requires { ⌜ (0 < run) × (h ≤ i) ⌝ }
+    requires { ⌜ h ≤ i ⌝ }
     ensures { λ r. ⌜ r ≡ hangoverOver i on run h ⌝ }
 {
-    if on { 0 } else { h + least(run, i - h) }
+    if !on {
+        return h + least(run, i - h);
+    }
+    if run == 0 { h } else { 0 }
 }
 
 fn least(x: u64, y: u64) -> u64

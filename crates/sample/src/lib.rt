@@ -1,8 +1,9 @@
 // One sample (document 01, "One sample"): what samples change of a meter.
 //
 // The definition counts at every sample. The code counts by runs: while the envelope stays between
-// two neighbouring thresholds no test changes its answer, so only the sums are stepped, and the
-// fifteen counters are brought up to date once, in closed form, when the run ends.
+// two neighbouring thresholds no test changes its answer, so only the sums are stepped. Where it
+// crosses a threshold, the counters of that threshold are brought up to date in closed form; those
+// of the others go on standing as they were, and all are brought up to date at the end.
 mod band;
 mod counters;
 mod runs;
@@ -43,18 +44,28 @@ impl State {
         }
         let mut a = self.a;
         let mut h = self.h;
-        let mut sums = self.sums;
-        let mut next = sums.step(k, xs[0]);
+        let mut since = [0u64; 15];
+        let before = self.sums;
+        let mut sums = before.step(k, xs[0]);
+        let mut band = band::around(sums.q);
         let mut at = 0;
         while at < xs.len() {
-            let band = band::around(next.q);
-            let run = runs::run_on(next, k, band, xs, at + 1);
-            let end = run.end;
-            counters::count(&mut a, &mut h, band.low, (end - at) as u64, i);
+            let run = runs::run_on(sums, k, band, xs, at);
+            at = run.end;
             sums = run.sums;
-            next = run.next;
-            at = end;
+            let next = band::around(sums.q);
+            counters::cross(
+                &mut a,
+                &mut h,
+                &mut since,
+                band.below,
+                next.below,
+                at as u64,
+                i,
+            );
+            band = next;
         }
+        counters::finish(&mut a, &mut h, &mut since, band.below, at as u64, i);
         State { sums, a, h }
     }
 }

@@ -1,12 +1,17 @@
 -- The closed forms of a hangover.
-use mathlib.Core.Bool.{Bool}
-use mathlib.Core.Path.{sym, ap, _∙_}
-use Prim.Native.Nat.{ℕ, _+_}
-use Rattle.sample.specs.Runs.{hangoverOver}
-use Rattle.sample.proofs.Over.{on-hangover, off-hangover}
 use borrow.Author.Needs.{needs}
+use borrow.Author.Tests.{not-true, not-false}
+use mathlib.Core.Bool.{Bool}
+use mathlib.Core.Path.{_≡_, sym, ap, _∙_}
+use Prim.Native.Nat.{ℕ, _+_, _<_}
+use native.Mathlib.Omega.{arith}
+use Rattle.sample.specs.Runs.{hangoverOver}
+use Rattle.sample.proofs.Over.{on-hangover, off-hangover, no-hangover}
 use Rattle.sample.proofs.counters.hung.Statement.{statement}
 use Rattle.sample.proofs.counters.hung.Tie as tie
+
+above : (n : ℕ) → (n ≡ 0 → ⊥) → 0 < n
+above n f = omega (arith, f)
 
 sub-least : tie.Need-sub-least
 sub-least c = search needs
@@ -19,14 +24,17 @@ add-result c = search needs
 
 returns : tie.Need-returns
 returns c =
-    let s = c .before .args in
-    sym (ap (λ (b : Bool). hangoverOver (s .i) b (s .run) (s .h)) (c .if1 .taken) ∙ on-hangover (s .i) (s .run) (s .h) (c .before .pre .0))
-
-returns-2 : tie.Need-returns-2
-returns-2 c =
     let s = c .before .before .args in
     ap (λ (n : ℕ). s .h + n) (c .least .ensures)
-    ∙ sym (ap (λ (b : Bool). hangoverOver (s .i) b (s .run) (s .h)) (c .before .if1 .left) ∙ off-hangover (s .i) (s .run) (s .h) (c .before .before .pre .1))
+    ∙ sym (ap (λ (b : Bool). hangoverOver (s .i) b (s .run) (s .h)) (not-true _ (c .before .if1 .taken)) ∙ off-hangover (s .i) (s .run) (s .h) (c .before .before .pre))
+
+returns-2 : tie.Need-returns-2
+returns-2 c = let s = c .before .before .args in sym (no-hangover (s .i) (s .on) (s .run) (s .h) (c .if2 .taken))
+
+returns-3 : tie.Need-returns-3
+returns-3 c =
+    let s = c .before .before .args in
+    sym (ap (λ (b : Bool). hangoverOver (s .i) b (s .run) (s .h)) (not-false _ (c .before .if1 .left)) ∙ on-hangover (s .i) (s .run) (s .h) (above (s .run) (c .if2 .left)))
 
 pub hung-spec : {M : Type 1} → statement M
-hung-spec = tie.close (tie.spec sub-least least-requires add-result returns returns-2)
+hung-spec = tie.close (tie.spec sub-least least-requires add-result returns returns-2 returns-3)

@@ -1,0 +1,31 @@
+-- The thresholds that the envelope is at or above, and those that it is below.
+use borrow.Author.Needs.{needs}
+use borrow.Author.Tests.{lt-ltb, le-ltb}
+use mathlib.Core.Bool.{true, false}
+use mathlib.Core.Path.{sym}
+use native.Mathlib.Omega.{arith}
+use lib.Dec.{ltb}
+use Rattle.sample.specs.Runs.{between}
+use Rattle.sample.proofs.Settling.{in-between, apart, twice, still-standing}
+use Rattle.sample.proofs.counters.finish.Statement.{statement}
+use Rattle.sample.proofs.counters.finish.Tie as tie
+
+settle-requires : tie.Need-settle-requires
+settle-requires c κs = search needs
+
+settle-requires-2 : tie.Need-settle-requires-2
+settle-requires-2 c κs = (still-standing _ _ _ _ _ _ _ _ _ _ (c .before .before .before .before .before .before .before .pre .0) (c .before .before .before .settle .ensures), omega arith)
+
+returns : tie.Need-returns
+returns c =
+    let s = c .before .before .before .before .before .before .before .before in
+    let was = s .args .was in
+    twice _ _ (λ j. between 0 was j) (λ j. between was 15 j) (λ _. true) (λ _. false) (λ j. ltb j was) _ _ _ _ _ _ _ _ _
+    (λ j e. apart was 15 j (λ b. absurd (omega (arith, in-between 0 was j e .1, b .0))))
+    (λ j e. sym (lt-ltb j was (in-between 0 was j e .1)))
+    (λ j e. sym (le-ltb j was (in-between was 15 j e .0)))
+    (c .before .before .before .before .settle .ensures)
+    (c .settle2 .ensures)
+
+pub finish-spec : {M : Type 1} → statement M
+finish-spec = tie.close (tie.spec settle-requires settle-requires-2 returns)

@@ -1,0 +1,139 @@
+-- The invariant: the counters from the first place up to this one are settled, and the others left alone.
+use borrow.Author.Needs.{needs}
+use mathlib.Core.Bool.{Bool, false}
+use mathlib.Core.List.{List}
+use Prim.Native.Nat.{ℕ, _-_, _≤_, max}
+use native.Mathlib.Omega.{arith}
+use lib.ListN.{getD}
+use Rattle.sample.specs.Runs.{Settled, SettledAt, between}
+use Rattle.sample.proofs.Settling.{none-yet, untouched, one-more, same-places, by-places}
+use Rattle.sample.proofs.counters.settle.Statement.{statement}
+use Rattle.sample.proofs.counters.settle.Tie as tie
+
+record Inv (I at from to : ℕ) (on : Bool) (a₀ h₀ s₀ a h s : List ℕ) (j : ℕ) : Type 0 where
+  reached : from ≤ j
+  below : j ≤ max from to
+  so-far : Settled I at (λ i. between from j i) (λ _. on) a₀ h₀ s₀ a h s
+
+abbrev Inv-loop : tie.InvT-loop
+Inv-loop a₀ h₀ since₀ from to on at i j₀ a h since j = Inv i at from to on a₀ h₀ since₀ a h since j
+
+abbrev μ-loop : tie.MeasureT-loop
+μ-loop a₀ h₀ since₀ from to on at i j₀ a h since j = to - j
+
+-- the counter of the place is as it was
+still : (c : tie.In-loop Inv-loop μ-loop)
+    → SettledAt (c .before .before .args .i) (c .before .before .args .at) false (c .before .before .args .on)
+    (getD (c .before .before .args .a .now) (c .before .loop .j) 0) (getD (c .before .before .args .h .now) (c .before .loop .j) 0) (getD (c .before .before .args .since .now) (c .before .loop .j) 0)
+    (getD (c .before .loop .a) (c .before .loop .j) 0) (getD (c .before .loop .h) (c .before .loop .j) 0) (getD (c .before .loop .since) (c .before .loop .j) 0)
+still c =
+    let l = c .before .loop in
+    untouched _ _ _ _ _ _ _ _ _ _ (l .j) (l .inv .reached) (omega (arith, c .loop-test .taken, c .before .before .pre .1)) (l .inv .so-far)
+
+loop-holds : tie.Need-loop-holds Inv-loop μ-loop
+loop-holds c =
+    let p = c .pre .0 in
+    record { reached = omega arith; below = omega arith; so-far = none-yet _ _ _ _ _ _ _ (p .a-length) (p .h-length) (p .since-length) }
+
+mul-aj : tie.Need-mul-aj Inv-loop μ-loop
+mul-aj c = search needs
+
+element-copy-out-aj : tie.Need-element-copy-out-aj Inv-loop μ-loop
+element-copy-out-aj c = search needs
+
+mul-hj : tie.Need-mul-hj Inv-loop μ-loop
+mul-hj c = search needs
+
+element-copy-out-hj : tie.Need-element-copy-out-hj Inv-loop μ-loop
+element-copy-out-hj c = search needs
+
+mul-run : tie.Need-mul-run Inv-loop μ-loop
+mul-run c = search needs
+
+element-copy-out-run : tie.Need-element-copy-out-run Inv-loop μ-loop
+element-copy-out-run c = search needs
+
+sub-run : tie.Need-sub-run Inv-loop μ-loop
+sub-run c =
+    let n = c .before .before .before in
+    omega (arith, still n .index, n .before .before .pre .0 .index (n .before .loop .j))
+
+counted-requires : tie.Need-counted-requires Inv-loop μ-loop
+counted-requires c κs =
+    let n = c .before .before .before in
+    let p = n .before .before .pre .0 in
+    let e = still n in
+    (omega (arith, e .index, e .count, p .room (n .before .loop .j)), omega (arith, e .hangover, p .h-max (n .before .loop .j)))
+
+mul-a : tie.Need-mul-a Inv-loop μ-loop
+mul-a c = search needs
+
+element-write-a : tie.Need-element-write-a Inv-loop μ-loop
+element-write-a c = search needs
+
+hung-requires : tie.Need-hung-requires Inv-loop μ-loop
+hung-requires c κs =
+    let n = c .before .before .before .before in
+    omega (arith, still n .hangover, n .before .before .pre .0 .h-max (n .before .loop .j))
+
+mul-h : tie.Need-mul-h Inv-loop μ-loop
+mul-h c = search needs
+
+element-write-h : tie.Need-element-write-h Inv-loop μ-loop
+element-write-h c = search needs
+
+mul-since : tie.Need-mul-since Inv-loop μ-loop
+mul-since c = search needs
+
+element-write-since : tie.Need-element-write-since Inv-loop μ-loop
+element-write-since c = search needs
+
+add-j : tie.Need-add-j Inv-loop μ-loop
+add-j c = search needs
+
+loop-less : tie.Need-loop-less Inv-loop μ-loop
+loop-less c = search needs
+
+loop-again : tie.Need-loop-again Inv-loop μ-loop
+loop-again c =
+    let n = c .before .before .before .before .before in
+    let l = n .before .loop in
+    record {
+      reached = omega (arith, l .inv .reached);
+      below = omega (arith, n .loop-test .taken);
+      so-far = one-more _ _ _ _ _ _ _ _ _ _ (l .j) (l .inv .reached) (omega (arith, n .loop-test .taken, n .before .before .pre .1)) (l .inv .so-far)
+          (c .before .counted .result) (c .hung .result) (c .before .counted .ensures) (c .hung .ensures);
+    }
+
+returns : tie.Need-returns Inv-loop μ-loop
+returns c =
+    let l = c .before .loop in
+    let s = c .before .before .args in
+    by-places _ _ _ _ _ _ _ _ _ _ _ (λ j. same-places (s .from) (s .to) (l .j) j (l .inv .reached) (l .inv .below) (c .loop-test .left)) (l .inv .so-far)
+
+pub settle-spec : {M : Type 1} → statement M
+settle-spec =
+    tie.close
+    (tie.spec
+    Inv-loop
+    μ-loop
+    loop-holds
+    mul-aj
+    element-copy-out-aj
+    mul-hj
+    element-copy-out-hj
+    mul-run
+    element-copy-out-run
+    sub-run
+    counted-requires
+    mul-a
+    element-write-a
+    hung-requires
+    mul-h
+    element-write-h
+    mul-since
+    element-write-since
+    add-j
+    loop-less
+    loop-again
+    returns)
