@@ -1,5 +1,10 @@
-// Printing a line on standard output, piece by piece.
+// Printing on standard output: a line piece by piece, a meter, and what a call gave.
+use crossing::Levels;
 use libc::STDOUT_FILENO;
+use meter::Fed;
+use meter::Meter;
+use meter::Reported;
+use refusal::Answer;
 
 pub fn words(text: &[u8]) {
     io::write_all(STDOUT_FILENO, text);
@@ -38,4 +43,51 @@ pub fn fifteen(x: &[u64; 15]) {
 
 pub fn end_of_line() {
     words(b"\n");
+}
+
+// A line with `meter` and its 37 values: the code, n, s, sq high, sq low, P, Q, the a_j, the h_j.
+pub fn meter(meter: Meter) {
+    let sums = meter.state.sums;
+    let a = meter.state.a;
+    let h = meter.state.h;
+    words(b"meter");
+    spaced(meter.setting.code as u64);
+    spaced(sums.n);
+    spaced_signed(sums.s);
+    spaced(sums.sq.high);
+    spaced(sums.sq.low);
+    spaced(sums.p);
+    spaced(sums.q);
+    fifteen(&a);
+    fifteen(&h);
+    end_of_line();
+}
+
+// A line with a call's name and the number that it gave.
+pub fn given(name: &[u8], fed: Fed) {
+    let answer = fed.answer;
+    words(name);
+    spaced(refusal::given(answer) as u64);
+    end_of_line();
+}
+
+// A line with `report`, the number and, where there is a report, L, A, C, F, lower and upper.
+pub fn report(reported: Reported) {
+    let answer = reported.answer;
+    words(b"report");
+    spaced(refusal::given(answer) as u64);
+    match answer {
+        Answer::Accepted => levels(reported.report.levels),
+        Answer::Refused(_) => {}
+    }
+    end_of_line();
+}
+
+fn levels(levels: Levels) {
+    spaced_signed(levels.level.0);
+    spaced_signed(levels.active.0);
+    spaced_signed(levels.threshold.0);
+    spaced_signed(levels.factor.0);
+    spaced(levels.lower as u64);
+    spaced(levels.upper as u64);
 }

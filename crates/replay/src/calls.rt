@@ -1,13 +1,11 @@
 // The records that play a meter's calls, each by its own function.
 use crate::Turn;
-use crate::input;
-use crate::input::Byte;
-use crate::input::Half;
+use input::Byte;
+use input::Half;
 use level::Squares;
 use meter::Fed;
 use meter::Meter;
 use meter::Setting;
-use refusal::Answer;
 use sample::State;
 use sample::Sums;
 
@@ -17,7 +15,7 @@ pub fn open(meter: Meter) -> Turn {
         return cut(meter);
     };
     told(
-        b"open ",
+        b"open",
         Meter::open(Setting {
             code: input::code(code),
         }),
@@ -35,7 +33,7 @@ pub fn chunk(meter: Meter) -> Turn {
         return cut(meter);
     }
     let samples = input::decoded(&bytes, n);
-    told(b"chunk ", meter.chunk(&samples[0..n]))
+    told(b"chunk", meter.chunk(&samples[0..n]))
 }
 
 // 3: a block.
@@ -48,28 +46,13 @@ pub fn block(meter: Meter) -> Turn {
     if !input::filled(&mut bytes, n) {
         return cut(meter);
     }
-    told(b"block ", meter.block(&bytes[0..n]))
+    told(b"block", meter.block(&bytes[0..n]))
 }
 
 // 4: a report.
 pub fn report(meter: Meter) -> Turn {
     let given = meter.report();
-    let answer = given.answer;
-    let levels = given.report.levels;
-    print::words(b"report ");
-    print::unsigned(refusal::given(answer) as u64);
-    match answer {
-        Answer::Accepted => {
-            print::spaced_signed(levels.level.0);
-            print::spaced_signed(levels.active.0);
-            print::spaced_signed(levels.threshold.0);
-            print::spaced_signed(levels.factor.0);
-            print::spaced(levels.lower as u64);
-            print::spaced(levels.upper as u64);
-        }
-        Answer::Refused(_) => {}
-    }
-    print::end_of_line();
+    print::report(given);
     whole(given.meter)
 }
 
@@ -108,29 +91,13 @@ fn sums(record: &[u8; 289]) -> Sums {
 
 // 6: the meter's values.
 pub fn show(meter: Meter) -> Turn {
-    let sums = meter.state.sums;
-    let a = meter.state.a;
-    let h = meter.state.h;
-    print::words(b"meter");
-    print::spaced(meter.setting.code as u64);
-    print::spaced(sums.n);
-    print::spaced_signed(sums.s);
-    print::spaced(sums.sq.high);
-    print::spaced(sums.sq.low);
-    print::spaced(sums.p);
-    print::spaced(sums.q);
-    print::fifteen(&a);
-    print::fifteen(&h);
-    print::end_of_line();
+    print::meter(meter);
     whole(meter)
 }
 
-// The line of a call that was answered with a number.
+// A call and its line.
 fn told(name: &[u8], fed: Fed) -> Turn {
-    let answer = fed.answer;
-    print::words(name);
-    print::unsigned(refusal::given(answer) as u64);
-    print::end_of_line();
+    print::given(name, fed);
     whole(fed.meter)
 }
 

@@ -16,10 +16,9 @@
 // all zeros; open and load replace it. A record that is cut short, or of another kind, prints
 // `bad record k`, k counting records from 1, and ends the run.
 mod calls;
-mod input;
 mod questions;
 
-use crate::input::Byte;
+use input::Byte;
 use meter::Meter;
 use meter::Setting;
 

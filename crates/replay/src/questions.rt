@@ -1,9 +1,8 @@
 // The records that need no meter, each played by its own function, which answers whether the record was
 // whole.
-use crate::input;
-use crate::input::Byte;
-use crate::input::Half;
-use crate::input::Word;
+use input::Byte;
+use input::Half;
+use input::Word;
 use level::Level;
 use level::Squares;
 

@@ -1,4 +1,4 @@
-// Reading a record's fields, numbers little-endian.
+// Reading numbers, samples and bytes from standard input, numbers little-endian.
 ghost use mathlib.Core.Path.{_≡_};
 ghost use Prim.Native.Nat.{_+_, _≤_, _<_, _^_};
 ghost use lib.ListN.{length};
@@ -88,7 +88,7 @@ pub fn fifteen(bytes: &[u8; 289], from: usize) -> [u64; 15]
     numbers
 }
 
-// Room for the bytes of the most samples that a chunk's record can have.
+// Room for the bytes of 65535 samples, the most that a count of two bytes can say.
 pub fn sample_bytes() -> [u8; 131070]
     ensures { λ r. ⌜ 131070 ≡ length r ⌝ }
 {
@@ -115,6 +115,13 @@ pub fn filled(buffer: &mut [u8], n: usize) -> bool
     ensures { λ _. ⌜ length (now (buffer .exit)) ≡ length (now (buffer .entry)) ⌝ }
 {
     io::read_full(STDIN_FILENO, &mut buffer[0..n]) == n
+}
+
+// Fills a buffer as far as the input goes, and answers with how many bytes.
+pub fn received(buffer: &mut [u8]) -> usize
+    ensures { λ r. ⌜ (r ≤ length (now (buffer .entry))) × (length (now (buffer .exit)) ≡ length (now (buffer .entry))) ⌝ }
+{
+    io::read_full(STDIN_FILENO, buffer)
 }
 
 // A code of one byte.

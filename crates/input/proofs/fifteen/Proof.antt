@@ -1,8 +1,8 @@
 -- The places left fall.
 use borrow.Author.Needs.{needs}
 use Prim.Native.Nat.{_-_}
-use Rattle.replay.proofs.input.fifteen.Statement.{statement}
-use Rattle.replay.proofs.input.fifteen.Tie as tie
+use Rattle.input.proofs.fifteen.Statement.{statement}
+use Rattle.input.proofs.fifteen.Tie as tie
 
 abbrev Inv-loop : tie.InvT-loop
 Inv-loop bytes from numbers₀ j₀ numbers j = Unit {0}

@@ -2,15 +2,15 @@
 use borrow.Author.Needs.{needs}
 use borrow.Author.Tests.{lt-ltb}
 use mathlib.Core.Bool.{Bool, cond}
-use mathlib.Core.Path.{_≡_, sym, ap, _∙_, subst}
+use mathlib.Core.Path.{sym, ap, _∙_, subst}
 use Prim.Native.Nat.{ℕ, suc, _-_, _^_, _<_}
 use native.Mathlib.Omega.{arith}
 use lib.IntN.{ℤ, pos, negsuc, _+ℤ_}
 use mir.Syntax.{w64}
 use mir.Val.{SFits, toZ}
 use mir.Facts.{toZ-pos}
-use Rattle.replay.proofs.input.signed.Statement.{statement}
-use Rattle.replay.proofs.input.signed.Tie as tie
+use Rattle.input.proofs.signed.Statement.{statement}
+use Rattle.input.proofs.signed.Tie as tie
 
 fits : (x : ℕ) → x < 2 ^ 63 → SFits w64 (toZ w64 x +ℤ negsuc (2 ^ 63 - 1))
 fits x h =

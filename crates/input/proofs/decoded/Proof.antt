@@ -4,8 +4,8 @@ use Prim.Native.Nat.{_-_, _≤_}
 use mathlib.Core.Path.{_≡_, sym, _∙_}
 use native.Mathlib.Omega.{arith}
 use lib.ListN.{length, length-set}
-use Rattle.replay.proofs.input.decoded.Statement.{statement}
-use Rattle.replay.proofs.input.decoded.Tie as tie
+use Rattle.input.proofs.decoded.Statement.{statement}
+use Rattle.input.proofs.decoded.Tie as tie
 
 abbrev Inv-loop : tie.InvT-loop
 Inv-loop bytes count samples₀ j₀ samples j = (j ≤ count) × (65535 ≡ length samples)

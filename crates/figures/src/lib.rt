@@ -1,1 +1,0 @@
-// Worked figures, proved as one table.
