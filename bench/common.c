@@ -1,0 +1,46 @@
+/* The driver of every program: reads a rate code (1 byte), the number of rounds (2 bytes) and
+ * samples (2 bytes each, at most 32768) from standard input, numbers little-endian, feeds the
+ * samples that many rounds over to a fresh meter and prints it. */
+#include "meter.h"
+
+#include <stdio.h>
+
+enum { HEADER = 3, MOST_SAMPLES = 32768 };
+
+static const struct rate rates[] = {
+    {694, 49174, 139},
+    {8000, 4360, 1600},
+    {16000, 2182, 3200},
+};
+
+static unsigned number_at(const uint8_t *bytes)
+{
+    return bytes[0] | (unsigned)bytes[1] << 8;
+}
+
+/* Feeds all samples once, in chunks. */
+static void feed(struct meter *m, const int16_t *samples, size_t count)
+{
+    for (size_t at = 0; at < count; at += CHUNK)
+        meter_take(m, samples + at, count - at < CHUNK ? count - at : CHUNK);
+}
+
+int main(void)
+{
+    static uint8_t input[HEADER + 2 * MOST_SAMPLES];
+    static int16_t samples[MOST_SAMPLES];
+    size_t length = fread(input, 1, sizeof input, stdin);
+    if (length < HEADER || input[0] < 1 || input[0] > 3 || getchar() != EOF) {
+        fputs("wanted: a rate code, the rounds and at most 32768 samples\n", stderr);
+        return 1;
+    }
+    size_t count = (length - HEADER) / 2;
+    for (size_t i = 0; i < count; i++)
+        samples[i] = (int16_t)number_at(input + HEADER + 2 * i);
+
+    struct meter *m = meter_open(&rates[input[0] - 1]);
+    for (unsigned rounds = number_at(input + 1); rounds > 0; rounds--)
+        feed(m, samples, count);
+    meter_print(m);
+    return 0;
+}

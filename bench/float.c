@@ -1,0 +1,72 @@
+/* Method B in double precision, as speech level meters are commonly written. Its results differ
+ * from the definitions by rounding. */
+#include "meter.h"
+
+#include <math.h>
+#include <stdio.h>
+
+static const double full_scale = 32768.0;
+static const double time_constant = 0.03; /* seconds */
+static const double hangover_time = 0.2;  /* seconds */
+
+/* Samples, averages and thresholds are fractions of full scale. */
+struct meter {
+    double g; /* smoothing */
+    int hangover;
+    long n;
+    double sum;
+    double squares;
+    double p;
+    double q; /* envelope */
+    double c[THRESHOLDS];
+    int a[THRESHOLDS]; /* activity counts */
+    int h[THRESHOLDS]; /* hangover counts */
+};
+
+struct meter *meter_open(const struct rate *rate)
+{
+    static struct meter m;
+    m = (struct meter){
+        .g = exp(-1.0 / (rate->samples_per_second * time_constant)),
+        .hangover = (int)ceil(rate->samples_per_second * hangover_time),
+    };
+    for (int j = 0; j < THRESHOLDS; j++) {
+        m.c[j] = ldexp(1.0, j) / full_scale;
+        m.h[j] = m.hangover;
+    }
+    return &m;
+}
+
+static inline void count_sample(struct meter *m)
+{
+    for (int j = 0; j < THRESHOLDS; j++) {
+        if (m->q >= m->c[j]) {
+            m->a[j] += 1;
+            m->h[j] = 0;
+        } else if (m->h[j] < m->hangover) {
+            m->a[j] += 1;
+            m->h[j] += 1;
+        }
+    }
+}
+
+void meter_take(struct meter *m, const int16_t *samples, size_t count)
+{
+    for (size_t i = 0; i < count; i++) {
+        double x = samples[i] / full_scale;
+        m->n += 1;
+        m->sum += x;
+        m->squares += x * x;
+        m->p = m->g * m->p + (1.0 - m->g) * fabs(x);
+        m->q = m->g * m->q + (1.0 - m->g) * m->p;
+        count_sample(m);
+    }
+}
+
+void meter_print(const struct meter *m)
+{
+    printf("%ld %.6f %.6f", m->n, m->sum, m->squares);
+    for (int j = 0; j < THRESHOLDS; j++)
+        printf(" %d", m->a[j]);
+    putchar('\n');
+}

@@ -1,0 +1,48 @@
+/* The meter in whole numbers, and the part of a sample that plain.c and runs.c share. */
+#ifndef INTEGER_H
+#define INTEGER_H
+
+#include "meter.h"
+
+#include <stdlib.h>
+
+enum { SMOOTHING_BITS = 20, UNIT_BITS = 24 };
+
+/* P and the envelope Q are in units of 2^-24 quantizing interval. */
+struct meter {
+    struct rate rate;
+    uint64_t n;
+    int64_t s;
+    uint64_t sq_high; /* the sum of squares, which a long measurement takes past 64 bits */
+    uint64_t sq_low;
+    uint64_t p;
+    uint64_t q;
+    uint64_t a[THRESHOLDS]; /* activity counts */
+    uint64_t h[THRESHOLDS]; /* hangover counts */
+};
+
+/* Threshold j, in the units of the envelope. */
+static inline uint64_t threshold(int j)
+{
+    return (uint64_t)1 << (j + UNIT_BITS);
+}
+
+/* One exponential average: moves old towards new by k / 2^20 of the way, rounding down. */
+static inline uint64_t smooth(uint64_t k, uint64_t old, uint64_t new)
+{
+    return (old * (((uint64_t)1 << SMOOTHING_BITS) - k) + new * k) >> SMOOTHING_BITS;
+}
+
+/* Everything a sample changes except the counts. */
+static inline void step_sums(struct meter *m, int16_t x)
+{
+    uint64_t size = (uint64_t)abs(x); /* in int: -32768 has no opposite in 16 bits */
+    m->n += 1;
+    m->s += x;
+    m->sq_low += size * size;
+    m->sq_high += m->sq_low < size * size; /* the carry */
+    m->p = smooth(m->rate.k, m->p, size << UNIT_BITS);
+    m->q = smooth(m->rate.k, m->q, m->p);
+}
+
+#endif

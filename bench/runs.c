@@ -1,0 +1,79 @@
+/* The same results, counted by runs. While the envelope stays between two neighbouring thresholds
+ * no comparison changes its answer, so only the sums are stepped. Where it crosses a threshold the
+ * counters of that threshold are brought up to date in closed form; the others go on standing as
+ * they were, and all are brought up to date when the chunk ends. */
+#include "integer.h"
+
+/* From low up to, not including, high. No threshold lies between them; those below place j are at
+ * or below low. */
+struct band {
+    uint64_t low;
+    uint64_t high;
+    int below;
+};
+
+/* The index up to which each counter is up to date. */
+struct indices {
+    size_t since[THRESHOLDS];
+};
+
+static struct band around(uint64_t q)
+{
+    if (q < threshold(0))
+        return (struct band){0, threshold(0), 0};
+    int place = 63 - __builtin_clzll(q);
+    int below = place - UNIT_BITS + 1;
+    return (struct band){(uint64_t)1 << place, (uint64_t)2 << place, below < THRESHOLDS ? below : THRESHOLDS};
+}
+
+/* Brings the counters from one place up to another up to date at an index. The envelope was at or
+ * above their thresholds, or below them. */
+static void settle(struct meter *m, struct indices *c, int from, int to, int on, size_t at)
+{
+    for (int j = from; j < to; j++) {
+        uint64_t run = at - c->since[j];
+        if (on) {
+            m->a[j] += run;
+            m->h[j] = run == 0 ? m->h[j] : 0;
+        } else {
+            uint64_t left = m->rate.i - m->h[j];
+            uint64_t grow = run < left ? run : left;
+            m->a[j] += grow;
+            m->h[j] += grow;
+        }
+        c->since[j] = at;
+    }
+}
+
+/* Steps the sums over samples from index i on until one takes the envelope out of the band. Gives
+ * the index of that sample, or the number of samples. */
+static size_t step_inside(struct meter *m, struct band band, const int16_t *samples, size_t i,
+                          size_t count)
+{
+    for (; i < count; i++) {
+        step_sums(m, samples[i]);
+        if (m->q < band.low || band.high <= m->q)
+            break;
+    }
+    return i;
+}
+
+/* The sample that ends a run begins the next one. */
+void meter_take(struct meter *m, const int16_t *samples, size_t count)
+{
+    if (count == 0)
+        return;
+    struct indices c = {{0}};
+    step_sums(m, samples[0]);
+    struct band band = around(m->q);
+    size_t at = 0;
+    while (at < count) {
+        at = step_inside(m, band, samples, at + 1, count);
+        struct band next = around(m->q);
+        settle(m, &c, band.below, next.below, 0, at);
+        settle(m, &c, next.below, band.below, 1, at);
+        band = next;
+    }
+    settle(m, &c, 0, band.below, 1, at);
+    settle(m, &c, band.below, THRESHOLDS, 0, at);
+}
