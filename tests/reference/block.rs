@@ -157,3 +157,11 @@ pub fn make(code: u8, before: u64, samples: &[i16]) -> Vec<u8> {
     seal(&mut bytes);
     bytes
 }
+
+/// Sound blocks of all the samples in order, full but for the last (document 01, "Sample blocks").
+pub fn pack(code: u8, samples: &[i16]) -> Vec<u8> {
+    let parts = samples.chunks(MOST).enumerate();
+    parts
+        .flat_map(|(i, part)| make(code, (i * MOST) as u64, part))
+        .collect()
+}

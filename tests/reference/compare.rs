@@ -1,6 +1,8 @@
 //! Demand 3 checked over the printed answers to a list of calls, by E alone.
 
 use crate::exact::{counts_never_rise, thresholds, Exact};
+use crate::meter::Report;
+use crate::printed::{self, numbers};
 use crate::rate::rate;
 use crate::records::{read, Record};
 use crate::replay::Player;
@@ -10,12 +12,6 @@ use crate::tally::Tally;
 struct Comparison {
     exact: Option<Exact>,
     tally: Tally,
-}
-
-/// The numbers after a line's first word, where that word is the one wanted.
-fn numbers(line: &str, word: &str) -> Option<Vec<i128>> {
-    let rest = line.strip_prefix(word)?.strip_prefix(' ')?;
-    rest.split(' ').map(|number| number.parse().ok()).collect()
 }
 
 impl Comparison {
@@ -58,28 +54,20 @@ fn call(tally: &mut Tally, name: &str, accepted: bool, line: &str, word: &str) {
     tally.holds(&format!("{name} acceptance"), agrees);
 }
 
-/// Whether numbers are a meter's 37 values, all but s unsigned.
-fn meter_values(values: &[i128]) -> bool {
-    let unsigned = |(i, &value): (usize, &i128)| i == 2 || u64::try_from(value).is_ok();
-    values.len() == 37 && values.iter().enumerate().all(unsigned)
-}
-
 /// The clauses of demand 3 about a meter, with its total and its sum of squares.
 fn show(tally: &mut Tally, name: &str, exact: &Exact, line: &str) {
-    let values = numbers(line, "meter").filter(|values| meter_values(values));
-    tally.holds(&format!("{name} 37 values"), values.is_some());
-    let Some(values) = values else {
+    let meter = printed::meter(line);
+    tally.holds(&format!("{name} 37 values"), meter.is_some());
+    let Some(meter) = meter else {
         return;
     };
-    let a: Vec<u64> = values[7..22].iter().map(|&a| a as u64).collect();
-    let sq = ((values[3] as u128) << 64) + values[4] as u128;
     let clauses = [
-        ("n", values[1] == i128::from(exact.y)),
-        ("sq", sq == exact.sq),
-        ("Q against q", exact.envelope(values[6] as u64)),
-        ("a_j against c_j", exact.counts_from_above(&a)),
-        ("a_j against c_j + D", exact.counts_from_below(&a)),
-        ("a_j never rises", counts_never_rise(&a)),
+        ("n", meter.n == exact.y),
+        ("sq", meter.sq == exact.sq),
+        ("Q against q", exact.envelope(meter.Q)),
+        ("a_j against c_j", exact.counts_from_above(&meter.a)),
+        ("a_j against c_j + D", exact.counts_from_below(&meter.a)),
+        ("a_j never rises", counts_never_rise(&meter.a)),
     ];
     for (clause, holds) in clauses {
         tally.holds(&format!("{name} {clause}"), holds);
@@ -88,17 +76,19 @@ fn show(tally: &mut Tally, name: &str, exact: &Exact, line: &str) {
 
 /// The clauses of demand 3 about a report; a refused one has none.
 fn report(tally: &mut Tally, name: &str, exact: &Exact, line: &str) {
-    let (A, lower, upper) = match numbers(line, "report").as_deref() {
-        Some(&[0, _, A, _, _, lower, upper]) => (A, lower, upper),
-        Some(&[12..=16]) => return,
+    let Report {
+        A, lower, upper, ..
+    } = match printed::report(line) {
+        Some(Ok(report)) => report,
+        Some(Err(12..=16)) => return,
         _ => return tally.holds(&format!("{name} a report's numbers"), false),
     };
-    let whole = A > 0 && lower >= 0 && lower <= upper && upper <= 14;
+    let whole = A > 0 && lower <= upper && upper <= 14;
     tally.holds(&format!("{name} A above 0, j in range"), whole);
     if whole {
-        let below = exact.level_from_below(A as u64, lower as usize);
+        let below = exact.level_from_below(A as u64, lower);
         tally.holds(&format!("{name} A from below"), below);
-        let above = exact.level_from_above(A as u64, upper as usize);
+        let above = exact.level_from_above(A as u64, upper);
         tally.holds(&format!("{name} A from above"), above);
     }
 }

@@ -4,7 +4,7 @@ use crate::block;
 use crate::level::lev;
 use crate::meter::{Meter, Report};
 use crate::rate::RATES;
-use crate::records::words;
+use crate::report::report;
 use crate::tally::Tally;
 
 /// Every figure; whether none failed.
@@ -135,19 +135,34 @@ fn bounds(tally: &mut Tally) {
     tally.equal("chunk of 4097", fresh.chunk(&[0; 4097]).1, 3);
 }
 
-/// The example of the report program (document 01, "Worked figures").
+/// The example of the report program (document 01, "Worked figures"), and inputs at the edges.
 fn program(tally: &mut Tally) {
-    let (meter, r) = Meter::open(1).0.block(&block::make(1, 0, &[32767]));
-    tally.equal("example, block", r, 0);
-    tally.equal("example, samples", meter.n, 1);
-    tally.equal("example, sum", meter.s, 32767);
-    tally.equal("example, squares", words(meter.sq), (0, 1073676289));
-    tally.equal(
-        "example, counts",
-        meter.a,
-        [1, 1, 1, 1, 1, 1, 1, 0, 0, 0, 0, 0, 0, 0, 0],
-    );
-    tally.equal("example, report", meter.report(), Err(16));
+    let example = "samples 1\nsum 32767\nsquares 0 1073676289\n\
+                   counts 1 1 1 1 1 1 1 0 0 0 0 0 0 0 0\nrefused 16\n";
+    let nothing = "samples 0\nsum 0\nsquares 0 0\n\
+                   counts 0 0 0 0 0 0 0 0 0 0 0 0 0 0 0\nrefused 12\n";
+    let block = block::make(1, 0, &[32767]);
+    let twice = [&block[..], &block].concat();
+    let rows = [
+        ("example", &block[..], "", example),
+        ("empty input", &[], "", nothing),
+        ("short block", &block[..511], "block 1 refused 4\n", nothing),
+        (
+            "the same block again",
+            &twice,
+            "block 2 refused 10\n",
+            example,
+        ),
+        (
+            "one byte more",
+            &twice[..513],
+            "block 2 refused 4\n",
+            example,
+        ),
+    ];
+    for (name, input, refused, measurement) in rows {
+        tally.equal(name, report(input), [refused, measurement].concat());
+    }
 }
 
 /// A pair of samples that brings Q to a threshold exactly.

@@ -1,10 +1,11 @@
-//! Records to play, the same for the same seed.
+//! Records to play and recordings to measure, the same for the same seed.
 
 mod blocks;
 mod bounds;
 mod calls;
 mod lists;
-mod random;
+pub mod random;
+mod recording;
 mod script;
 mod signals;
 
@@ -17,7 +18,7 @@ const HOST_CODES: [u32; 12] = [0, 1, 2, 3, 4, 5, 255, 256, 257, 258, 259, u32::M
 /// Those of them that one byte holds.
 const BYTE_CODES: [u32; 7] = [0, 1, 2, 3, 4, 5, 255];
 
-/// The records of one kind; None for an unknown kind.
+/// The records or the recording of one kind; None for an unknown kind.
 pub fn generate(kind: &str, seed: u64, count: u64) -> Option<Vec<u8>> {
     match kind {
         "lev" => Some(lev(seed, count)),
@@ -25,6 +26,7 @@ pub fn generate(kind: &str, seed: u64, count: u64) -> Option<Vec<u8>> {
         "check" => Some(check(seed, count)),
         "calls" => Some(calls::calls(seed, count)),
         "lists" => Some(lists::list(seed, count)),
+        "recording" => Some(recording::recording(seed, count)),
         _ => None,
     }
 }

@@ -1,4 +1,5 @@
-//! A second program of document 01's definitions, to test the first one against.
+//! A second program of document 01's definitions, to test the first one against, with the
+//! calibration of P.56 and its method B in floating point.
 //!
 //! The names are the document's, capitals among them.
 
@@ -6,20 +7,29 @@
 
 mod big;
 mod block;
+mod clause11;
 mod compare;
 mod exact;
 mod figures;
+mod float;
 mod generate;
 mod host;
 mod level;
+mod measurement;
 mod meter;
+mod printed;
 mod rate;
 mod records;
 mod replay;
+mod report;
+mod speech;
 mod tally;
 
 use std::io::{self, Read, Write};
 use std::process::ExitCode;
+
+/// Said of a script that cannot be played to its end.
+const BAD_RECORD: &str = "the script has a bad record";
 
 /// Everything on standard input.
 fn input() -> io::Result<Vec<u8>> {
@@ -34,19 +44,27 @@ fn output(bytes: &[u8]) -> io::Result<bool> {
     Ok(true)
 }
 
+/// Lines to standard output, or an error with a message where there are none.
+fn lines(lines: Option<String>, message: &str) -> io::Result<bool> {
+    match lines {
+        Some(lines) => output(lines.as_bytes()),
+        None => error(message),
+    }
+}
+
 /// An error with a message.
 fn error<T>(message: &str) -> io::Result<T> {
     Err(io::Error::other(message))
 }
 
-/// Writes the records of one kind.
+/// Writes the records or the recording of one kind.
 fn generate(kind: &str, seed: &str, count: &str) -> io::Result<bool> {
     let (Ok(seed), Ok(count)) = (seed.parse(), count.parse()) else {
         return error("SEED and COUNT are numbers");
     };
     match generate::generate(kind, seed, count) {
         Some(bytes) => output(&bytes),
-        None => error("KIND is lev, host, check, calls or lists"),
+        None => error("KIND is lev, host, check, calls, lists or recording"),
     }
 }
 
@@ -54,31 +72,85 @@ fn generate(kind: &str, seed: &str, count: &str) -> io::Result<bool> {
 fn counted(tally: Option<tally::Tally>) -> io::Result<bool> {
     match tally {
         Some(tally) => Ok(tally.finish()),
-        None => error("the script has a bad record"),
+        None => error(BAD_RECORD),
     }
+}
+
+/// The rate of a code that names one.
+fn rate_of(code: &str) -> io::Result<&'static rate::Rate> {
+    match code.parse().ok().and_then(rate::rate) {
+        Some(rate) => Ok(rate),
+        None => error("CODE is 1, 2 or 3"),
+    }
+}
+
+/// The samples of a recording.
+fn samples(bytes: &[u8]) -> io::Result<Vec<i16>> {
+    match records::read_samples(bytes) {
+        Some(samples) => Ok(samples),
+        None => error("the last sample is cut short"),
+    }
+}
+
+/// The samples of a voice.
+fn voice(code: &str, seed: &str) -> io::Result<bool> {
+    let Ok(seed) = seed.parse() else {
+        return error("SEED is a number");
+    };
+    let mut bytes = Vec::new();
+    records::write_samples(&speech::voice(rate_of(code)?, seed), &mut bytes);
+    output(&bytes)
+}
+
+/// Runs a command about speech.
+fn speech(arguments: &[&str]) -> io::Result<bool> {
+    match arguments {
+        ["voice", code, seed] => voice(code, seed),
+        ["script", code] => output(&speech::script(rate_of(code)?, &samples(&input()?)?)),
+        ["check", code, recording, printed] => {
+            let samples = samples(&std::fs::read(recording)?)?;
+            let printed = std::fs::read_to_string(printed)?;
+            Ok(speech::check(rate_of(code)?, &samples, &printed).finish())
+        }
+        _ => {
+            error("speech voice CODE SEED | speech script CODE | speech check CODE SAMPLES OUTPUT")
+        }
+    }
+}
+
+/// Sound blocks of the samples on standard input.
+fn blocks(code: &str) -> io::Result<bool> {
+    output(&block::pack(rate_of(code)?.code, &samples(&input()?)?))
 }
 
 /// Runs one command; whether nothing failed.
 fn run(arguments: &[&str]) -> io::Result<bool> {
     match arguments {
         ["replay"] => output(replay::replay(&input()?).as_bytes()),
-        ["host"] => match host::host(&input()?) {
-            Some(lines) => output(lines.as_bytes()),
-            None => error("a record is cut short"),
-        },
+        ["report"] => output(report::report(&input()?).as_bytes()),
+        ["host"] => lines(host::host(&input()?), "a record is cut short"),
         ["generate", kind, seed, count] => generate(kind, seed, count),
+        ["blocks", code] => blocks(code),
         ["figures"] => Ok(figures::figures()),
         ["exact"] => counted(compare::exact(&input()?)),
-        ["counts"] => match compare::counts(&input()?) {
-            Some(line) => output(line.as_bytes()),
-            None => error("a script opens with a named code and has no bad record"),
-        },
+        ["counts"] => lines(
+            compare::counts(&input()?),
+            "a script opens with a named code and has no bad record",
+        ),
+        ["samples"] => lines(replay::accepted_samples(&input()?), BAD_RECORD),
         ["agrees", script, printed] => {
             let script = std::fs::read(script)?;
             counted(compare::agrees(&script, &std::fs::read_to_string(printed)?))
         }
+        ["clause11", "script"] => output(&clause11::script()),
+        ["clause11", "check", printed] => {
+            Ok(clause11::check(&std::fs::read_to_string(printed)?).finish())
+        }
+        ["speech", arguments @ ..] => speech(arguments),
         _ => error(
-            "replay | host | generate KIND SEED COUNT | figures | exact | counts | agrees SCRIPT OUTPUT",
+            "replay | report | host | generate KIND SEED COUNT | blocks CODE | figures | exact | \
+             counts | samples | agrees SCRIPT OUTPUT | clause11 script | clause11 check OUTPUT | \
+             speech ...",
         ),
     }
 }

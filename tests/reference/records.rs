@@ -73,12 +73,17 @@ impl<'a> Reader<'a> {
         Some(self.take(length as usize)?.to_vec())
     }
 
-    /// A count of two bytes and that many samples.
-    fn samples(&mut self) -> Option<Vec<i16>> {
-        let count = self.number(2)?;
+    /// So many samples.
+    fn samples(&mut self, count: u64) -> Option<Vec<i16>> {
         (0..count)
             .map(|_| Some(self.number(2)? as u16 as i16))
             .collect()
+    }
+
+    /// A count of two bytes and that many samples.
+    fn chunk(&mut self) -> Option<Vec<i16>> {
+        let count = self.number(2)?;
+        self.samples(count)
     }
 
     /// The 37 values of a meter.
@@ -107,7 +112,7 @@ impl<'a> Reader<'a> {
     fn record(&mut self) -> Option<Record> {
         match self.number(1)? {
             1 => Some(Record::Open(self.number(1)? as u8)),
-            2 => Some(Record::Chunk(self.samples()?)),
+            2 => Some(Record::Chunk(self.chunk()?)),
             3 => Some(Record::Block(self.bytes()?)),
             4 => Some(Record::Report),
             5 => Some(Record::Load(self.meter()?)),
@@ -132,6 +137,13 @@ pub fn read(bytes: &[u8]) -> (Vec<Record>, bool) {
     (records, false)
 }
 
+/// The samples of a recording, which is nothing but samples; None where the last is cut short.
+pub fn read_samples(bytes: &[u8]) -> Option<Vec<i16>> {
+    let mut reader = Reader::new(bytes);
+    let samples = reader.samples(bytes.len() as u64 / 2)?;
+    reader.at_end().then_some(samples)
+}
+
 /// The high and the low word of a number.
 pub fn words(number: u128) -> (u64, u64) {
     ((number >> 64) as u64, number as u64)
@@ -141,6 +153,11 @@ pub fn words(number: u128) -> (u64, u64) {
 pub fn write_bytes(bytes: &[u8], out: &mut Vec<u8>) {
     out.extend((bytes.len() as u16).to_le_bytes());
     out.extend(bytes);
+}
+
+/// Writes samples, two bytes each.
+pub fn write_samples(samples: &[i16], out: &mut Vec<u8>) {
+    out.extend(samples.iter().flat_map(|x| x.to_le_bytes()));
 }
 
 /// Writes a number of two words, the high one first.
@@ -169,7 +186,7 @@ impl Record {
             Record::Chunk(samples) => {
                 out.push(2);
                 out.extend((samples.len() as u16).to_le_bytes());
-                out.extend(samples.iter().flat_map(|x| x.to_le_bytes()));
+                write_samples(samples, out);
             }
             Record::Block(bytes) => {
                 out.push(3);

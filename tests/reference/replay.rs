@@ -80,3 +80,20 @@ pub fn replay(bytes: &[u8]) -> String {
     }
     lines
 }
+
+/// A line with the total length of the accepted calls; None where the script has a bad record.
+///
+/// n grows by a call's samples just where the call is accepted (document 01, "One sample").
+pub fn accepted_samples(script: &[u8]) -> Option<String> {
+    let (records, bad) = read(script);
+    let mut player = Player::new();
+    let mut total = 0;
+    for record in &records {
+        let n = player.meter.n;
+        player.answer(record);
+        if let Record::Chunk(_) | Record::Block(_) = record {
+            total += player.meter.n - n;
+        }
+    }
+    (!bad).then(|| format!("{total}\n"))
+}

@@ -27,6 +27,14 @@ impl Tally {
         }
     }
 
+    /// Counts a check that holds or not, with its line either way.
+    pub fn shown(&mut self, line: &str, condition: bool) {
+        if condition {
+            println!("{line}");
+        }
+        self.holds(line, condition);
+    }
+
     /// Counts a check of a value, with both values where they differ.
     pub fn equal<T: PartialEq + Debug>(&mut self, name: &str, found: T, expected: T) {
         let name = format!("{name}: {found:?} for {expected:?}");

@@ -1,5 +1,7 @@
 //! Random numbers that a seed determines (splitmix64).
 
+use std::f64::consts::TAU;
+
 /// The generator's state.
 pub struct Random {
     state: u64,
@@ -48,6 +50,24 @@ impl Random {
     /// One of the things given.
     pub fn pick<T: Copy>(&mut self, things: &[T]) -> T {
         things[self.below(things.len() as u64) as usize]
+    }
+
+    /// A fraction from 0 up to but not including 1, in 53 bits.
+    fn fraction(&mut self) -> f64 {
+        (self.next() >> 11) as f64 / (1u64 << 53) as f64
+    }
+
+    /// A number from the first up to the last, whole or not.
+    pub fn fraction_between(&mut self, first: f64, last: f64) -> f64 {
+        first + (last - first) * self.fraction()
+    }
+
+    /// A number of Gaussian distribution, mean 0 and deviation 1, by Box and Muller.
+    ///
+    /// It is within 8.6 of 0, since the fraction under the logarithm is at least 2^-53.
+    pub fn gaussian(&mut self) -> f64 {
+        let radius = (-2.0 * (1.0 - self.fraction()).ln()).sqrt();
+        radius * (TAU * self.fraction()).cos()
     }
 
     /// A sample no larger than this either way.

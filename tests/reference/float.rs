@@ -1,0 +1,87 @@
+//! Method B of P.56 (clauses 8.2 and 8.3) in floating point, without document 01's rounding.
+//!
+//! Of document 01 it takes only the places of the thresholds, at powers of two of the quantizing
+//! interval, and that of several crossings the lowest is used; the Recommendation leaves both open.
+
+use crate::measurement::Levels;
+use crate::rate::Rate;
+
+/// The time constant of smoothing, in seconds (P.56, Table 2).
+const T: f64 = 0.03;
+
+/// The margin in decibels (P.56, Table 2).
+const M: f64 = 15.9;
+
+/// The counts at one threshold (P.56, clause 8.2, process 2).
+struct Counts {
+    threshold: f64,
+    activity: u64,
+    hangover: u64,
+}
+
+impl Counts {
+    /// Takes one value of the envelope (P.56, clause 8.2, process 2).
+    fn take(&mut self, q: f64, I: u64) {
+        if q >= self.threshold {
+            self.activity += 1;
+            self.hangover = 0;
+        } else if self.hangover < I {
+            self.activity += 1;
+            self.hangover += 1;
+        }
+    }
+
+    /// The active-level estimate, and how far more than the margin it is above the threshold.
+    ///
+    /// Both are infinite where the threshold was never reached.
+    fn estimate(&self, sq: f64) -> (f64, f64) {
+        let A_j = 10.0 * (sq / self.activity as f64).log10();
+        let C_j = 20.0 * self.threshold.log10();
+        (A_j, A_j - C_j - M)
+    }
+}
+
+/// The counts after all samples (P.56, clause 8.2, process 2).
+fn counts(rate: &Rate, samples: &[i16]) -> Vec<Counts> {
+    let g = (-1.0 / (rate.samples_per_second as f64 * T)).exp();
+    let I = rate.I_by_rule();
+    let mut counts: Vec<Counts> = (0..15)
+        .map(|j| Counts {
+            threshold: f64::from(1 << j),
+            activity: 0,
+            hangover: I,
+        })
+        .collect();
+    let (mut p, mut q) = (0.0, 0.0);
+    for &x in samples {
+        p = g * p + (1.0 - g) * f64::from(x).abs();
+        q = g * q + (1.0 - g) * p;
+        for count in &mut counts {
+            count.take(q, I);
+        }
+    }
+    counts
+}
+
+/// The active level: the point that is the margin above its threshold, on a straight line in
+/// decibels between two neighbouring thresholds and their estimates (P.56, clause 8.2).
+fn active_level(sq: f64, counts: &[Counts]) -> Option<f64> {
+    let estimates: Vec<(f64, f64)> = counts.iter().map(|count| count.estimate(sq)).collect();
+    let crossing = estimates
+        .windows(2)
+        .find(|pair| pair[0].1 >= 0.0 && pair[1].1 < 0.0)?;
+    let ((lower, d_lower), (upper, d_upper)) = (crossing[0], crossing[1]);
+    Some(lower + (upper - lower) * d_lower / (d_lower - d_upper))
+}
+
+/// The levels of all samples; None where no threshold has the margin (P.56, clause 8.2).
+pub fn measure(rate: &Rate, samples: &[i16]) -> Option<Levels> {
+    let sq: f64 = samples.iter().map(|&x| f64::from(x) * f64::from(x)).sum();
+    let active = active_level(sq, &counts(rate, samples))?;
+    let long_term = 10.0 * (sq / samples.len() as f64).log10();
+    Some(Levels {
+        long_term,
+        active,
+        factor: long_term - active,
+    })
+}

@@ -1,0 +1,65 @@
+//! One whole measurement: an opening, its samples in chunks, a report and a show.
+
+use crate::meter::{Meter, Report, MOST_IN_CHUNK};
+use crate::printed;
+use crate::records::Record;
+
+/// A step in decibels: 1/4096 of a doubling of power (document 01, "The level logarithm").
+pub const STEP: f64 = 10.0 * std::f64::consts::LOG10_2 / 4096.0;
+
+/// What a measurement tells, in decibels; the levels are relative to one quantizing interval.
+pub struct Levels {
+    pub long_term: f64,
+    pub active: f64,
+    /// Ten times the logarithm of the activity factor.
+    pub factor: f64,
+}
+
+/// A measurement as a replay program printed it.
+pub struct Measurement {
+    /// The levels, or the number of the report's refusal.
+    pub report: Result<Levels, u32>,
+    pub meter: Meter,
+}
+
+/// The levels of a report.
+fn levels(report: Report) -> Levels {
+    Levels {
+        long_term: STEP * report.L as f64,
+        active: STEP * report.A as f64,
+        factor: STEP * report.F as f64,
+    }
+}
+
+/// Writes the records of a measurement.
+pub fn write(code: u8, samples: &[i16], out: &mut Vec<u8>) {
+    Record::Open(code).write(out);
+    for chunk in samples.chunks(MOST_IN_CHUNK) {
+        Record::Chunk(chunk.to_vec()).write(out);
+    }
+    Record::Report.write(out);
+    Record::Show.write(out);
+}
+
+/// Reads the next lines as those of a measurement of so many samples.
+///
+/// None where one is missing, where the opening or a chunk was refused, or where the meter shown
+/// did not take those samples at that code.
+pub fn read<'a>(
+    lines: &mut impl Iterator<Item = &'a str>,
+    code: u8,
+    length: usize,
+) -> Option<Measurement> {
+    if lines.next()? != "open 0" {
+        return None;
+    }
+    for _ in 0..length.div_ceil(MOST_IN_CHUNK) {
+        if lines.next()? != "chunk 0" {
+            return None;
+        }
+    }
+    let report = printed::report(lines.next()?)?.map(levels);
+    let meter = printed::meter(lines.next()?)?;
+    let whole = meter.code == code && meter.n == length as u64;
+    whole.then_some(Measurement { report, meter })
+}

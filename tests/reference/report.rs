@@ -1,0 +1,39 @@
+//! The report program: measures the blocks on its input and prints what was measured.
+
+use crate::block;
+use crate::meter::Meter;
+use crate::rate::{Rate, RATES};
+use crate::records::words;
+
+/// The rate it measures at, code 1 (document 01, "Worked figures").
+pub const RATE: &Rate = &RATES[0];
+
+/// What it prints for an input: the refused blocks, then the measurement.
+///
+/// A short last block counts as one and is handed on as it is (document 01, "Worked figures").
+pub fn report(input: &[u8]) -> String {
+    let (mut meter, _) = Meter::open(RATE.code);
+    let mut lines = String::new();
+    for (i, bytes) in input.chunks(block::LENGTH).enumerate() {
+        let (next, r) = meter.block(bytes);
+        meter = next;
+        if r != 0 {
+            lines += &format!("block {} refused {r}\n", i + 1);
+        }
+    }
+    lines + &measurement(&meter)
+}
+
+/// The five lines at the end (document 01, "Worked figures").
+fn measurement(meter: &Meter) -> String {
+    let (high, low) = words(meter.sq);
+    let counts = meter.a.map(|a_j| a_j.to_string()).join(" ");
+    let last = match meter.report() {
+        Ok(report) => format!("level {} {} {} {}", report.L, report.A, report.C, report.F),
+        Err(r) => format!("refused {r}"),
+    };
+    format!(
+        "samples {}\nsum {}\nsquares {high} {low}\ncounts {counts}\n{last}\n",
+        meter.n, meter.s
+    )
+}
