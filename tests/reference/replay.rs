@@ -1,4 +1,4 @@
-//! Replay: plays a recorded list of calls and prints a line for each.
+//! Replay: recorded calls, made again, with a line for each.
 
 use crate::block;
 use crate::level::lev;

@@ -49,7 +49,7 @@ blockRules b code =
     ∷ (9, usedUnused b)
     ∷ []
 
--- a block is sound when none of 4, 5, 6, 8 and 9 applies to it and its rate code is a named one
+-- sound: of all these rules only 7 could be broken, and the block's own code names a rate
 unfoldable pub sound : List ℕ → Bool
 sound b =
     not (wrongLength b)

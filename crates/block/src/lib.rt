@@ -13,8 +13,7 @@ ghost use Rattle.block.specs.Refusals.{wrongCount, usedUnused, blockRule
 use refusal::Answer;
 use refusal::Refusal;
 
-// The part of a sound block that carries its samples, two bytes for each; of any other the empty
-// part.
+// The bytes of a sound block's samples; of any other block, none.
 pub fn samples_part(block: &[u8]) -> &[u8]
     ensures { λ r. ⌜ now r ≡ samplesPart (now (block .entry)) ⌝ }
 {

@@ -13,7 +13,7 @@ abbrev pub isZero : ℤ → Bool
 isZero (pos n) = eqb n 0
 isZero (negsuc n) = false
 
--- a crossing is at j when a_j is above 0 and either d_j is 0, or j is at least 1, d_(j−1) is positive and d_j negative
+-- whether there is a crossing at j: the count is above 0, and d is 0 there, or it turns from above 0 to below it from the place before to this one
 unfoldable pub isCrossing : (M : ℕ) (S : ℤ) (a : List ℕ) (j : ℕ) → Bool
 isCrossing M S a j =
     let d = excess M S a in

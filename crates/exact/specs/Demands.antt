@@ -24,7 +24,7 @@ envelopeAfter K I xs = samples K I (freshState I) xs .sums .q
 abbrev pub exactEnvelopeAfter : (K I : ℕ) → List ℤ → ℕ
 exactEnvelopeAfter K I xs = takeAll (startAt 0 K I) xs .qn
 
--- the envelope: Q is never above E's q, and less than D below it
+-- the envelope: Q does not exceed q, and q stays below Q + D
 pub record EnvelopeBound (K I D : ℕ) (xs : List ℤ) : Type 0 where
   pub never-above : envelopeAfter K I xs * (2 ^ 20) ^ (length xs + 1) ≤ exactEnvelopeAfter K I xs
   pub less-than-D : exactEnvelopeAfter K I xs < (envelopeAfter K I xs + D) * (2 ^ 20) ^ (length xs + 1)
@@ -40,8 +40,8 @@ exactAfter code calls = exactly (start code) calls
 abbrev pub countAt : E → ℕ → ℕ
 countAt e c = e .u c
 
--- the level clauses, of a report r: A is above 0, A plus two steps is above E's exact active level at the lower threshold, and A less two
--- steps is below it at the upper threshold raised by D
+-- the level clauses, of a report r: A is above 0; two steps more than A exceed E's exact level at the lower threshold, and two steps less than A
+-- stay below E's at the upper threshold plus D
 pub record LevelBounds (r : Report) (e : E) (D : ℕ) : Type 0 where
   pub A : ℕ
   pub reported : r .levels .active .0 ≡ pos A
@@ -51,13 +51,13 @@ pub record LevelBounds (r : Report) (e : E) (D : ℕ) : Type 0 where
 
 -- demand 3
 pub record Demand3 (code : ℕ) (calls : List Call) : Type 0 where
-  -- the meter accepts exactly the calls that E accepts
+  -- both accept the same calls
   pub same-calls : accepted (fresh (record { code = code })) calls ≡ acceptedByE (start code) calls
-  -- each activity count is at most E's count at that threshold
+  -- no count exceeds E's at its threshold
   pub at-most : (j : ℕ) → j < 15 → getD (meterAfter code calls .state .a) j 0 ≤ countAt (exactAfter code calls) (threshold j)
-  -- and at least E's count at the threshold raised by D
+  -- or falls short of E's at that threshold plus D
   pub at-least : (j : ℕ) → j < 15 → countAt (exactAfter code calls) (threshold j + rowOf code .d) ≤ getD (meterAfter code calls .state .a) j 0
-  -- no count rises with the threshold
+  -- a higher threshold never has the larger count
   pub never-rises : (i j : ℕ) → i ≤ j → j < 15 → getD (meterAfter code calls .state .a) j 0 ≤ getD (meterAfter code calls .state .a) i 0
   -- a report on that meter gives levels or one of 12 to 16, and never 2
   pub level-or-refusal :

@@ -11,7 +11,7 @@ use Rattle.block.specs.Refusals.{sound}
 use Rattle.exact.specs.Lists.{Call, chunk, block}
 
 -- the code with its K and I, the total y, the fractions p = pn/(2^20)^y and q = qn/(2^20)^(y+1), for each threshold c in units a count u(c)
--- and a hangover v(c), and the sum of x times x over the samples taken
+-- and a hangover v(c), and the sum of the squares of the samples taken
 pub record E : Type 0 where
   pub code : ℕ
   pub K : ℕ
@@ -23,7 +23,7 @@ pub record E : Type 0 where
   pub v : ℕ → ℕ
   pub sq : ℕ
 
--- at first y, p, q and each u are zero and each v is I
+-- before any call: nothing is counted, and every hangover has run out
 unfoldable pub startAt : (code K I : ℕ) → E
 startAt code K I =
     record { code = code; K = K; I = I; y = 0; pn = 0; qn = 0; u = λ c. 0; v = λ c. I; sq = 0 }
@@ -35,14 +35,16 @@ start code = startAt code (rowOf code .k) (rowOf code .i)
 unfoldable pub reaches : (y qn c : ℕ) → Bool
 reaches y qn c = leb (c * (2 ^ 20) ^ (y + 1)) qn
 
--- a count and a hangover after a sample: if q ≥ c, u grows by 1 and v becomes 0; else if v < I, both grow by 1; else nothing
+-- a count and a hangover after a sample: at or above the threshold the count grows and the hangover is cleared; below it both grow until the
+-- hangover has run out
 unfoldable pub countNext : (I : ℕ) (on : Bool) (u v : ℕ) → ℕ
 countNext I on u v = cond on (u + 1) (cond (ltb v I) (u + 1) u)
 
 unfoldable pub hangoverNext : (I : ℕ) (on : Bool) (v : ℕ) → ℕ
 hangoverNext I on v = cond on 0 (cond (ltb v I) (v + 1) v)
 
--- after a sample x: p becomes (p(2^20 − K) + |x|·2^24·K)/2^20, then q (q(2^20 − K) + p·K)/2^20 with the new p; the denominators grow with y
+-- after a sample x: p moves towards |x|·2^24 by K/2^20 of the way, and q as much towards the new p; numerators here, while the denominators grow
+-- with y
 unfoldable pub take : E → ℤ → E
 take e x =
     let y = e .y + 1 in
@@ -74,7 +76,7 @@ unfoldable pub samplesOf : Call → List ℤ
 samplesOf (chunk xs) = xs
 samplesOf (block b) = samples b
 
--- a refused call changes nothing in E
+-- E after a call, which it takes or leaves
 unfoldable pub fed : E → Call → E
 fed e call = cond (accepts e call) (takeAll e (samplesOf call)) e
 

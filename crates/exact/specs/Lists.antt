@@ -1,4 +1,4 @@
--- Calls, and what the meter makes of a list of them: document 01, "One sample". Each call gets the meter that the call before it handed back.
+-- Calls, and what the meter makes of a list of them: document 01, "One sample". Each call is given what the one before handed back.
 use mathlib.Core.Bool.{Bool}
 use mathlib.Core.List.{List, [], _∷_}
 use Prim.Native.Nat.{ℕ}

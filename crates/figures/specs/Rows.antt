@@ -45,8 +45,7 @@ pub data Row : Type 0 where
   refused : (n sq : ℕ) (a : List ℕ) (number : ℕ) → Row
   -- after calls from a fresh meter of a code the meter has these values
   played : (code : ℕ) → List Call → Values → Row
-  -- after calls from a fresh meter of a code the report's active level is A, and A plus one step is not above E's exact active level at the
-  -- lower threshold: demand 3's two steps are needed
+  -- calls from a fresh meter of a code, after which A is reported and one step more than A does not exceed E's exact level at the lower threshold
   needsTwo : (code : ℕ) → List Call → (A : ℕ) → Row
   -- after calls from a fresh start at a code E's count at threshold c is u
   counted : (code : ℕ) → List Call → (c u : ℕ) → Row

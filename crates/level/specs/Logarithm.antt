@@ -13,7 +13,7 @@ unfoldable pub placeUpTo : ℕ → ℕ → ℕ
 placeUpTo zero n = 0
 placeUpTo (suc k) n = cond (leb (2 ^ suc k) n) (suc k) (placeUpTo k n)
 
--- b, the place of n's highest one bit (the lowest place is 0), for n from 1 to 2^80
+-- b, where the leading one of n stands, counted from 0 at the low end; n is from 1 to 2^80
 unfoldable pub place : ℕ → ℕ
 place n = placeUpTo 80 n
 

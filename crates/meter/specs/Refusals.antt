@@ -79,7 +79,7 @@ longChunk xs = ltb 4096 (length xs)
 unfoldable pub wrongPlace : Meter → List ℕ → Bool
 wrongPlace m b = not (eqb (before b) (m .state .sums .n))
 
--- 11: n and the new samples together above 2^48
+-- 11: the new samples would take n past 2^48
 unfoldable pub tooMany : Meter → ℕ → Bool
 tooMany m new = ltb (2 ^ 48) (m .state .sums .n + new)
 

@@ -50,8 +50,8 @@ pub record Ceiling (a b c : ℕ) : Type 0 where
   pub not-below : a ≤ c * b
   pub smallest : (x : ℕ) → a ≤ x * b → c ≤ x
 
--- what a row's figures keep to: the coefficient 1 − K/2^20 is a fraction, I is 0.2 s rounded up to samples, and D is the smallest whole number
--- not below 2^21/K
+-- what a row's figures keep to: the coefficient 1 − K/2^20 is a fraction, I is the least number of samples that lasts 0.2 s,
+-- and D the least whole number that is 2^21/K or more
 pub record Keeps (r : Rate) : Type 0 where
   pub k-low : 1 ≤ r .k
   pub k-high : r .k ≤ 2 ^ 20

@@ -11,10 +11,10 @@
 //   7 lev      high u64, low u64               prints `lev v`, or `lev none`
 //   8 check    code u8, length u16, bytes      prints `check r`, the C host's answer
 //
-// r is 0 for accepted, else the refusal's number. The 37 values are the code u8 and then, eight bytes
+// r is the refusal's number, or 0. The 37 values are the code u8 and then, eight bytes
 // each, n, s, sq high, sq low, P, Q, the fifteen a_j and the fifteen h_j. The run starts with a meter of
-// all zeros; open and load replace it. A record that is cut short, or of another kind, prints
-// `bad record k`, k counting records from 1, and ends the run.
+// all zeros; open and load replace it. A record that is cut short, or of another kind, ends the run with
+// the line `bad record k`, where k is its number, from 1.
 mod calls;
 mod questions;
 
