@@ -35,9 +35,13 @@ lowerOf M S a j = cond (isZero (excess M S a j)) j (j - 1)
 abbrev pub upperOf : (j : ℕ) → ℕ
 upperOf j = j
 
+-- floor(z / n)
+abbrev pub floorOver : ℤ → ℕ → ℤ
+floorOver z n = shrZ z n
+
 -- A at a crossing j: A_j where d_j is 0, else A_(j−1) + floor((A_j − A_(j−1))·d_(j−1) / (d_(j−1) − d_j))
 unfoldable pub activeLevel : (M : ℕ) (S : ℤ) (a : List ℕ) (j : ℕ) → ℤ
 activeLevel M S a j =
     let A = activeAt S a in
     let d = excess M S a in
-    cond (isZero (d j)) (A j) (A (j - 1) +ℤ shrZ ((A j -ℤ A (j - 1)) *ℤ d (j - 1)) (natAbs (d (j - 1) -ℤ d j)))
+    cond (isZero (d j)) (A j) (A (j - 1) +ℤ floorOver ((A j -ℤ A (j - 1)) *ℤ d (j - 1)) (natAbs (d (j - 1) -ℤ d j)))

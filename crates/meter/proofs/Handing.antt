@@ -7,8 +7,10 @@ use Prim.Native.Nat.{ℕ, _≤_, _<_}
 use native.Mathlib.Omega.{arith}
 use borrow.Author.Tests.{ne-eqb}
 use lib.Dec.{T}
+use Rattle.rate.specs.declared.Named.{Named}
+use Rattle.rate.specs.declared.Named.the-variants.{As, Nothing}
 use Rattle.rate.specs.declared.Rate.{Rate}
-use Rattle.rate.specs.Rates.{rateOf}
+use Rattle.rate.specs.Rates.{rateOf, named}
 use Rattle.rate.proofs.Laws.{is-not-named, row-is}
 use Rattle.refusal.specs.First.{Rule, firstOf}
 use Rattle.meter.specs.declared.Meter.{Meter}
@@ -32,7 +34,7 @@ beyond k b rest a m e = sym (simp e)
 
 -- ---- the rate of a meter that refusal 2 lets pass, and of one that it does not
 
-pub usable : (m : Meter) (r : Rate) → usableRate m ≡ some r → Usable m r
+usable : (m : Meter) (r : Rate) → usableRate m ≡ some r → Usable m r
 unfolding usableRate
 usable m r e = go (impossible m) refl e
   where
@@ -40,16 +42,25 @@ usable m r e = go (impossible m) refl e
     go true p q = let z : _≡_ {A = ℕ} 0 1 = cc in absurd (omega arith)
     go false p q = record { possible-one = p; rate-is = q }
 
+-- by the answer that the code was given
+pub usable-as : (m : Meter) (r : Rate) (answer : Named) → named answer ≡ usableRate m → answer ≡ As r → Usable m r
+unfolding named
+usable-as m r answer e a = usable m r (sym e ∙ ap named a)
+
 pub ready : (m : Meter) (r : Rate) (new : ℕ) → Usable m r → new ≤ 4096 → Ready m (r .k) (r .i) new
 unfolding kOf iOf
 ready m r new u l =
     let e = row-is (m .setting .code) r (u .rate-is) in
     record { possible = u .possible-one; k-is = ap (λ (x : Rate). x .k) e; i-is = ap (λ (x : Rate). x .i) e; few = l }
 
-pub unusable : (m : Meter) → usableRate m ≡ none → impossible m ≡ true
+unusable : (m : Meter) → usableRate m ≡ none → impossible m ≡ true
 unfolding usableRate
 unusable m e = go (impossible m) refl e
   where
     go : (t : Bool) → impossible m ≡ t → cond t none (rateOf (m .setting .code)) ≡ none → impossible m ≡ true
     go true p q = p
     go false p q = absurd (subst T (sym (possible m p .named) ∙ is-not-named (m .setting .code) q) tt)
+
+pub unusable-as : (m : Meter) (answer : Named) → named answer ≡ usableRate m → answer ≡ Nothing → impossible m ≡ true
+unfolding named
+unusable-as m answer e a = unusable m (sym e ∙ ap named a)

@@ -5,6 +5,7 @@ use mathlib.Core.Logic.{_⊎_, inl, inr}
 use mathlib.Core.Option.{Option, none, some}
 use mathlib.Core.Path.{_≡_, refl, sym, ap, _∙_, subst}
 use Prim.Native.Nat.{ℕ, zero, suc, _-_, _≤_, _<_}
+use native.Mathlib.Nat.{pos-of-ne-zero}
 use native.Mathlib.Omega.{arith}
 use borrow.Author.Tests.{eqb-false, lt-ltb, ltb-false}
 use lib.Dec.{T, eqb, lit≤}
@@ -65,8 +66,7 @@ unfolding isCrossing
 first-crosses M S a p z = simp (lt-ltb 0 (getD a 0 0) p, z)
 
 positive : (n : ℕ) → eqb n 0 ≡ false → 0 < n
-positive zero e = absurd (eqb-false 0 0 e refl)
-positive (suc n) e = omega arith
+positive n e = pos-of-ne-zero (eqb-false n 0 e)
 
 module _ (m : Meter) (z : reportCall m .number ≡ 0) where
   -- every rule of the report passed

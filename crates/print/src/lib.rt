@@ -77,17 +77,22 @@ pub fn report(reported: Reported) {
     words(b"report");
     spaced(refusal::given(answer) as u64);
     match answer {
-        Answer::Accepted => levels(reported.report.levels),
+        Answer::Accepted => crossed(reported.report.levels),
         Answer::Refused(_) => {}
     }
     end_of_line();
 }
 
-fn levels(levels: Levels) {
+fn crossed(found: Levels) {
+    levels(found);
+    spaced(found.lower as u64);
+    spaced(found.upper as u64);
+}
+
+// L, A, C and F, each after a space.
+pub fn levels(levels: Levels) {
     spaced_signed(levels.level.0);
     spaced_signed(levels.active.0);
     spaced_signed(levels.threshold.0);
     spaced_signed(levels.factor.0);
-    spaced(levels.lower as u64);
-    spaced(levels.upper as u64);
 }

@@ -91,9 +91,6 @@ fn sums(state: State) {
 
 fn levels(levels: Levels) {
     print::words(b"level");
-    print::spaced_signed(levels.level.0);
-    print::spaced_signed(levels.active.0);
-    print::spaced_signed(levels.threshold.0);
-    print::spaced_signed(levels.factor.0);
+    print::levels(levels);
     print::end_of_line();
 }

@@ -1,7 +1,6 @@
 pub mod Activity
 pub mod Envelope
 pub mod Fifteen
-pub mod Front
 pub mod Kept
 mod Over
 mod Ran

@@ -28,12 +28,6 @@ pub record Within (I : ℕ) (m : State) : Type 0 where
   pub a-max : (j : ℕ) → j < 15 → getD (m .a) j 0 ≤ m .sums .n
   pub h-max : (j : ℕ) → j < 15 → getD (m .h) j 0 ≤ I
 
--- the same at every place, where past its end a list reads 0
-pub record Bounded (I : ℕ) (m : State) : Type 0 where
-  pub sums : BoundedSums (m .sums)
-  pub a-max : (j : ℕ) → getD (m .a) j 0 ≤ m .sums .n
-  pub h-max : (j : ℕ) → getD (m .h) j 0 ≤ I
-
 -- one counter after d samples on the same side of its threshold
 unfoldable pub hangoverOver : (I : ℕ) (on : Bool) (d h : ℕ) → ℕ
 hangoverOver I on zero h = h

@@ -1,13 +1,13 @@
 -- A part that is not empty is a sound block's.
 use borrow.Author.Needs.{needs}
 use mathlib.Core.List.{List}
-use mathlib.Core.Path.{_≡_, refl, sym, ap, _∙_, subst}
-use Prim.Native.Nat.{ℕ, zero, suc, _<_}
+use mathlib.Core.Path.{sym, ap, _∙_, subst}
+use Prim.Native.Nat.{ℕ, _<_}
+use native.Mathlib.Nat.{pos-of-ne-zero}
 use native.Mathlib.Omega.{arith}
 use lib.ListN.{length}
 use Rattle.block.specs.Refusals.{blockRules}
 use Rattle.block.proofs.Laws.{part-sound}
-use Rattle.rate.specs.Rates.{named}
 use Rattle.rate.proofs.Laws.{named-code}
 use Rattle.refusal.specs.First.{firstOf}
 use Rattle.refusal.proofs.Laws.{here}
@@ -15,17 +15,12 @@ use Rattle.meter.specs.Calls.{handedBy, blockCall}
 use Rattle.meter.specs.Inner.{Usable}
 use Rattle.meter.specs.Refusals.{impossible, blockCallRules}
 use Rattle.meter.proofs.Blocks.{by-part}
-use Rattle.meter.proofs.Handing.{refusal, usable, unusable}
+use Rattle.meter.proofs.Handing.{refusal, usable-as, unusable-as}
 use Rattle.meter.proofs.Meter.block.Statement.{statement}
 use Rattle.meter.proofs.Meter.block.Tie as tie
 
 at-rate : (c : tie.After-rate2) → Usable (c .before .before .before .before .args .self) (c .rate2 .given .0 .0)
-unfolding named
-at-rate c = usable _ _ (sym (c .before .before .rate .ensures) ∙ ap named (c .rate2 .given .1))
-
-positive : (n : ℕ) → (n ≡ 0 → ⊥) → 0 < n
-positive zero f = absurd (f refl)
-positive (suc n) f = omega arith
+at-rate c = usable-as _ _ _ (c .before .before .rate .ensures) (c .rate2 .given .1)
 
 rate-requires : tie.Need-rate-requires
 rate-requires c κs = search needs
@@ -54,7 +49,7 @@ follow-requires c κs =
     let p = c .before in
     let b = p .before .before .before .before .before .before .args .bytes .now in
     let e = p .samples-part .ensures in
-    (at-rate (p .before .before), (part-sound b .0 (subst (λ (l : List ℕ). 0 < length l) e (positive (length (p .samples-part .result .now)) (c .if1 .left))), e))
+    (at-rate (p .before .before), (part-sound b .0 (subst (λ (l : List ℕ). 0 < length l) e (pos-of-ne-zero (c .if1 .left))), e))
 
 enum-told : tie.Need-enum-told
 enum-told c = search needs
@@ -66,12 +61,12 @@ returns-2 : tie.Need-returns-2
 returns-2 c = search needs
 
 returns-3 : tie.Need-returns-3
-unfolding blockCall blockCallRules named
+unfolding blockCall blockCallRules
 returns-3 c =
     let s = c .before .before .before .before .before .args in
     c .refused2 .ensures
     ∙ refusal 2 (blockCallRules (s .self) (s .bytes .now)) _ _ (omega arith)
-    (here 2 (impossible (s .self)) _ (unusable (s .self) (sym (c .before .before .before .rate .ensures) ∙ ap named (c .before .enum-told .given .1))))
+    (here 2 (impossible (s .self)) _ (unusable-as (s .self) _ (c .before .before .before .rate .ensures) (c .before .enum-told .given .1)))
 
 pub block-spec : {M : Type 1} → statement M
 block-spec =

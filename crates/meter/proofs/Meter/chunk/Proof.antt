@@ -1,20 +1,18 @@
 -- One rule after another, left at the first that applies.
 use borrow.Author.Needs.{needs}
 use borrow.Author.Tests.{lt-ltb, le-ltb}
-use mathlib.Core.Path.{sym, ap, _∙_}
+use mathlib.Core.Path.{_∙_}
 use native.Mathlib.Omega.{arith}
-use Rattle.meter.proofs.Handing.{refusal, beyond, usable, ready, unusable}
+use Rattle.meter.proofs.Handing.{refusal, beyond, usable-as, ready, unusable-as}
 use Rattle.meter.specs.Calls.{chunkCall}
 use Rattle.meter.specs.Inner.{Usable, takenBy}
 use Rattle.meter.specs.Refusals.{chunkRules, impossible, longChunk}
-use Rattle.rate.specs.Rates.{named}
 use Rattle.refusal.proofs.Laws.{here, past}
 use Rattle.meter.proofs.Meter.chunk.Statement.{statement}
 use Rattle.meter.proofs.Meter.chunk.Tie as tie
 
 at-rate : (c : tie.After-rate2) → Usable (c .before .before .before .args .self) (c .rate2 .given .0 .0)
-unfolding named
-at-rate c = usable _ _ (sym (c .before .before .rate .ensures) ∙ ap named (c .rate2 .given .1))
+at-rate c = usable-as _ _ _ (c .before .before .rate .ensures) (c .rate2 .given .1)
 
 rate-requires : tie.Need-rate-requires
 rate-requires c κs = search needs
@@ -51,12 +49,12 @@ returns-2 c =
     ∙ beyond 2 (impossible (s .self)) _ _ _ (at-rate (c .before .before .before) .possible-one)
 
 returns-3 : tie.Need-returns-3
-unfolding chunkCall chunkRules named
+unfolding chunkCall chunkRules
 returns-3 c =
     let s = c .before .before .before .before .args in
     c .refused2 .ensures
     ∙ refusal 2 (chunkRules (s .self) (s .xs .now)) _ _ (omega arith)
-    (here 2 (impossible (s .self)) _ (unusable (s .self) (sym (c .before .before .before .rate .ensures) ∙ ap named (c .before .enum-told .given .1))))
+    (here 2 (impossible (s .self)) _ (unusable-as (s .self) _ (c .before .before .before .rate .ensures) (c .before .enum-told .given .1)))
 
 pub chunk-spec : {M : Type 1} → statement M
 chunk-spec =

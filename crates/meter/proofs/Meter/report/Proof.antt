@@ -1,13 +1,12 @@
 -- Refusal 2, or the report on a meter that it lets pass.
 use borrow.Author.Needs.{needs}
-use mathlib.Core.Path.{sym, ap, _∙_}
+use mathlib.Core.Path.{_∙_}
 use native.Mathlib.Omega.{arith}
-use Rattle.rate.specs.Rates.{named}
 use Rattle.refusal.proofs.Laws.{here}
 use Rattle.meter.specs.Refusals.{impossible}
 use Rattle.meter.specs.Reports.{reportRules}
 use Rattle.meter.proofs.Finding.{no-report}
-use Rattle.meter.proofs.Handing.{usable, unusable}
+use Rattle.meter.proofs.Handing.{usable-as, unusable-as}
 use Rattle.meter.proofs.Meter.report.Statement.{statement}
 use Rattle.meter.proofs.Meter.report.Tie as tie
 
@@ -18,8 +17,7 @@ enum-told : tie.Need-enum-told
 enum-told c = search needs
 
 measured-requires : tie.Need-measured-requires
-unfolding named
-measured-requires c κs = usable _ _ (sym (c .before .before .rate .ensures) ∙ ap named (c .enum-told .given .1)) .possible-one
+measured-requires c κs = usable-as _ _ _ (c .before .before .rate .ensures) (c .enum-told .given .1) .possible-one
 
 enum-told-2 : tie.Need-enum-told-2
 enum-told-2 c = search needs
@@ -31,11 +29,11 @@ returns : tie.Need-returns
 returns c = search needs
 
 returns-2 : tie.Need-returns-2
-unfolding named reportRules
+unfolding reportRules
 returns-2 c =
     let m = c .before .before .before .before .args .self in
     c .unreported .ensures
-    ∙ no-report 2 m (omega arith) (here 2 (impossible m) _ (unusable m (sym (c .before .before .before .rate .ensures) ∙ ap named (c .before .enum-told2 .given .1))))
+    ∙ no-report 2 m (omega arith) (here 2 (impossible m) _ (unusable-as m _ (c .before .before .before .rate .ensures) (c .before .enum-told2 .given .1)))
 
 pub report-spec : {M : Type 1} → statement M
 report-spec =

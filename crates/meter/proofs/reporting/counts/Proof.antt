@@ -6,7 +6,7 @@ use Prim.Native.Nat.{ℕ, zero, suc, _+_, _-_, _≤_, _<_}
 use native.Mathlib.Omega.{arith}
 use lib.ListN.{length, getD, set}
 use Rattle.level.specs.declared.Samples.{Samples}
-use Rattle.sample.proofs.Front.{front, front-more, front-all}
+use Rattle.meter.proofs.Front.{front, front-more, front-all}
 use Rattle.meter.specs.Reports.{samplesOf}
 use Rattle.meter.proofs.reporting.counts.Statement.{statement}
 use Rattle.meter.proofs.reporting.counts.Tie as tie

@@ -3,6 +3,7 @@ use borrow.Author.Needs.{needs}
 use mathlib.Core.List.{List, [], _∷_}
 use mathlib.Core.Path.{_≡_, refl, ap, _∙_, subst, sym}
 use Prim.Native.Nat.{ℕ, _+_, _-_, _^_, _≤_, _<_}
+use native.Mathlib.Nat.{pos-of-ne-zero}
 use native.Mathlib.Omega.{arith}
 use lib.IntN.{ℤ, pos}
 use lib.ListN.{length, getD}
@@ -38,10 +39,7 @@ returns c = empty _ _ _ _ (c .if1 .taken)
 -- ---- the first sample: there is one, it fits, and the sums after it are bounded
 
 some-sample : (c : tie.Else1 Inv-loop μ-loop) → 0 < length (c .before .args .xs .now)
-some-sample c = above (length (c .before .args .xs .now)) (c .if1 .left)
-  where
-    above : (n : ℕ) → (n ≡ 0 → ⊥) → 0 < n
-    above n f = omega arith
+some-sample c = pos-of-ne-zero (c .if1 .left)
 
 first-fits : (c : tie.After-step-arg Inv-loop μ-loop) → SFits w16 (getD (c .before .before .before .before .before .args .xs .now) 0 (pos 0))
 first-fits c = record { sfits = c .step-arg .given }

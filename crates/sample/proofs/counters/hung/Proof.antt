@@ -2,16 +2,13 @@
 use borrow.Author.Needs.{needs}
 use borrow.Author.Tests.{not-true, not-false}
 use mathlib.Core.Bool.{Bool}
-use mathlib.Core.Path.{_≡_, sym, ap, _∙_}
-use Prim.Native.Nat.{ℕ, _+_, _<_}
-use native.Mathlib.Omega.{arith}
+use mathlib.Core.Path.{sym, ap, _∙_}
+use Prim.Native.Nat.{ℕ, _+_}
+use native.Mathlib.Nat.{pos-of-ne-zero}
 use Rattle.sample.specs.Runs.{hangoverOver}
 use Rattle.sample.proofs.Over.{on-hangover, off-hangover, no-hangover}
 use Rattle.sample.proofs.counters.hung.Statement.{statement}
 use Rattle.sample.proofs.counters.hung.Tie as tie
-
-above : (n : ℕ) → (n ≡ 0 → ⊥) → 0 < n
-above n f = omega (arith, f)
 
 sub-least : tie.Need-sub-least
 sub-least c = search needs
@@ -34,7 +31,7 @@ returns-2 c = let s = c .before .before .args in sym (no-hangover (s .i) (s .on)
 returns-3 : tie.Need-returns-3
 returns-3 c =
     let s = c .before .before .args in
-    sym (ap (λ (b : Bool). hangoverOver (s .i) b (s .run) (s .h)) (not-false _ (c .before .if1 .left)) ∙ on-hangover (s .i) (s .run) (s .h) (above (s .run) (c .if2 .left)))
+    sym (ap (λ (b : Bool). hangoverOver (s .i) b (s .run) (s .h)) (not-false _ (c .before .if1 .left)) ∙ on-hangover (s .i) (s .run) (s .h) (pos-of-ne-zero (c .if2 .left)))
 
 pub hung-spec : {M : Type 1} → statement M
 hung-spec = tie.close (tie.spec sub-least least-requires add-result returns returns-2 returns-3)

@@ -1,21 +1,14 @@
 -- A loop that replaces a list from the front: after j turns it holds the first j elements of the new list and the rest of the old.
 use mathlib.Core.List.{List, [], _∷_, _++_}
 use mathlib.Core.Path.{_≡_, refl, ap, _∙_, sym}
-use Prim.Native.Nat.{ℕ, zero, suc, _+_, _<_, _≤_}
+use Prim.Native.Nat.{ℕ, zero, suc, _+_, _<_}
 use native.Mathlib.Nat.{le-of-suc-le-suc, not-suc-le-zero}
 use native.Mathlib.Numerals.{add-one}
 use native.Mathlib.Omega.{arith}
 use lib.ListN.{length, getD, take, drop, set}
-use lib.Seq.{drop-nil}
 
 abbrev pub front : {A : Type 0} → List A → List A → ℕ → List A
 front new old j = take j new ++ drop j old
-
-pub front-at : {A : Type 0} (d : A) (new old : List A) (j : ℕ) → j ≤ length new → getD (front new old j) j d ≡ getD old j d
-front-at {A} d new old zero h = refl
-front-at {A} d [] old (suc j) h = absurd (not-suc-le-zero h)
-front-at {A} d (x ∷ new) [] (suc j) h = ap (λ (l : List A). getD (take j new ++ l) j d) (sym (drop-nil j)) ∙ front-at d new [] j (le-of-suc-le-suc h)
-front-at {A} d (x ∷ new) (y ∷ old) (suc j) h = front-at d new old j (le-of-suc-le-suc h)
 
 front-suc : {A : Type 0} (d : A) (new old : List A) (j : ℕ) → j < length new → j < length old → set (front new old j) j (getD new j d) ≡ front new old (suc j)
 front-suc {A} d [] old j h k = absurd (not-suc-le-zero h)
