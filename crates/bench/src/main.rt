@@ -5,7 +5,7 @@ ghost use Prim.Native.Nat.{_≤_, _<_};
 use input::Byte;
 use input::Half;
 use meter::Meter;
-use meter::Setting;
+use setting::Setting;
 
 fn main() {
     let Byte::Is(code) = input::next_byte() else {

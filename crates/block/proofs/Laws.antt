@@ -13,11 +13,11 @@ use mir.Syntax.{w16}
 use mir.Val.{SFits}
 use lib.ListN.{length, take, drop, length-drop}
 use lib.Seq.{getD-take, getD-drop, length-take-le}
-use Rattle.refusal.specs.First.{firstOf}
-use Rattle.refusal.proofs.Laws.{past, cleared, both}
+use Rattle.refusal.specs.First.{firstOf, NoneApplies, numbered, rising, Given, Lowest}
+use Rattle.refusal.proofs.Laws.{past, given, given-lowest, both}
 use Rattle.rate.specs.Rates.{isNamed}
 use Rattle.block.specs.Block.{number, rateCode, count, signed, samplesAt, samples}
-use Rattle.block.specs.Refusals.{wrongLength, wrongCheck, wrongKind, wrongRate, wrongCount, usedUnused, blockRules, sound, samplesPart, hostCheck}
+use Rattle.block.specs.Refusals.{wrongLength, wrongCheck, wrongKind, wrongRate, wrongCount, usedUnused, blockRules, sound, samplesPart, hostRules, hostCheck}
 use Rattle.block.proofs.Conditions.{length-off, rate-right}
 
 -- ---- soundness
@@ -61,28 +61,27 @@ sound-accepted b code h e =
     let s = sound-is b h in
     sym (simp (s .length-ok, s .check-ok, s .kind-ok, rate-right b code e, s .count-ok, s .unused-ok))
 
+blocks-numbered : (b : List ℕ) (code : ℕ) → numbered (blockRules b code) ≡ true
+unfolding blockRules numbered
+blocks-numbered b code = refl
+
 rate-is : (b : List ℕ) (code : ℕ) → wrongRate b code ≡ false → rateCode b ≡ code
 unfolding wrongRate
 rate-is b code h = eqb-true _ _ (not-false _ h)
 
 -- and a block that nothing refuses at a named code is sound, and of that code
 pub accepted-sound : (b : List ℕ) (code : ℕ) → isNamed code ≡ true → 0 ≡ firstOf (blockRules b code) → (sound b ≡ true) × (rateCode b ≡ code)
-unfolding blockRules
+unfolding blockRules NoneApplies
 accepted-sound b code n h =
-    let c4 = cleared 3 (wrongLength b) _ h in
-    let c5 = cleared 4 (wrongCheck b) _ (c4 .1) in
-    let c6 = cleared 5 (wrongKind b) _ (c5 .1) in
-    let c7 = cleared 6 (wrongRate b code) _ (c6 .1) in
-    let c8 = cleared 7 (wrongCount b) _ (c7 .1) in
-    let c9 = cleared 8 (usedUnused b) _ (c8 .1) in
-    let e = rate-is b code (c7 .0) in (
+    let c = given (blockRules b code) (blocks-numbered b code) .accepted .0 (sym h) in
+    let e = rate-is b code (c .1 .1 .1 .0) in (
       is-sound b
           (record {
-            length-ok = c4 .0;
-            check-ok = c5 .0;
-            kind-ok = c6 .0;
-            count-ok = c8 .0;
-            unused-ok = c9 .0;
+            length-ok = c .0;
+            check-ok = c .1 .0;
+            kind-ok = c .1 .1 .0;
+            count-ok = c .1 .1 .1 .1 .0;
+            unused-ok = c .1 .1 .1 .1 .1 .0;
             named = ap isNamed e ∙ n;
           }),
       e,
@@ -190,10 +189,19 @@ signed-fits w = go (ltb w (2 ^ 15)) refl
 
 -- ---- the host
 
+host-rises : (b : List ℕ) (code : ℕ) → rising 0 (hostRules b code) ≡ true
+unfolding hostRules blockRules rising
+host-rises b code = refl
+
+-- the host is told the number of the first rule that applies, which is the lowest
+pub host-given : (b : List ℕ) (code : ℕ) → Given (hostRules b code) (hostCheck b code) × Lowest (hostRules b code) (hostCheck b code)
+unfolding hostCheck
+host-given b code = given-lowest (hostRules b code) (host-rises b code)
+
 -- the host is told 0 exactly where the block is sound and its code is the given, named one
 pub host-told : (b : List ℕ) (code : ℕ) → 0 ≡ hostCheck b code ↔ (sound b ≡ true) × (rateCode b ≡ code)
-unfolding hostCheck
+unfolding hostCheck hostRules NoneApplies
 host-told b code = (
-  λ h. let c = cleared 0 (not (isNamed code)) _ h in accepted-sound b code (not-false _ (c .0)) (c .1),
+  λ h. let c = host-given b code .0 .accepted .0 (sym h) in accepted-sound b code (not-false _ (c .0)) (sym (given (blockRules b code) (blocks-numbered b code) .accepted .1 (c .1))),
   λ p. past _ _ _ (ap not (ap isNamed (sym (p .1)) ∙ sound-is b (p .0) .named)) (sound-accepted b code (p .0) (p .1)),
 )

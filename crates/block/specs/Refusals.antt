@@ -63,6 +63,10 @@ sound b =
 unfoldable pub samplesPart : List ℕ → List ℕ
 samplesPart b = cond (sound b) (take (2 * count b) (drop 12 b)) []
 
+-- the rules of the line host's check: its own code first, then the block's rules at that code
+unfoldable pub hostRules : List ℕ → ℕ → List Rule
+hostRules b code = (1, not (isNamed code)) ∷ blockRules b code
+
 -- the answer to the line host: 1 where the code is not a named one, or one of 4 to 9, or 0
 unfoldable pub hostCheck : List ℕ → ℕ → ℕ
-hostCheck b code = firstOf ((1, not (isNamed code)) ∷ blockRules b code)
+hostCheck b code = firstOf (hostRules b code)

@@ -1,4 +1,5 @@
--- The search for the lowest place at which a test holds: what is found holds the test and lies in range, and where nothing is found no place does.
+-- The search for the lowest place at which a test holds: what is found lies in range and holds the test, which no lower place there does, and where
+-- nothing is found no place does.
 use mathlib.Core.Bool.{Bool, true, false, cond}
 use mathlib.Core.Logic.{⊎-elim}
 use mathlib.Core.Option.{Option, none, some}
@@ -12,25 +13,36 @@ pub record Found (f : ℕ → Bool) (j k i : ℕ) : Type 0 where
   pub from : j ≤ i
   pub to : i < j + k
   pub holds : f i ≡ true
+  pub none-lower : (l : ℕ) → j ≤ l → l < i → f l ≡ false
 
 -- what a search found, if anything
 At : (f : ℕ → Bool) (j k : ℕ) → Option ℕ → Type 0
 At f j k none = Unit {0}
 At f j k (some i) = Found f j k i
 
-later : (f : ℕ → Bool) (j k : ℕ) (o : Option ℕ) → At f (j + 1) k o → At f j (suc k) o
+-- a place is j, or one from j + 1 on
+from-next : (f : ℕ → Bool) (j l : ℕ) → j ≤ l → f j ≡ false → (j + 1 ≤ l → f l ≡ false) → f l ≡ false
+from-next f j l h e rest = ⊎-elim (λ s. ap f (sym s) ∙ e) (λ s. rest (omega arith)) (eq-or-lt-of-le h)
+
+later : (f : ℕ → Bool) (j k : ℕ) (o : Option ℕ) → f j ≡ false → At f (j + 1) k o → At f j (suc k) o
 unfolding At
-later f j k none h = tt
-later f j k (some i) h = record { from = omega (arith, h .from); to = omega (arith, h .to); holds = h .holds }
+later f j k none e h = tt
+later f j k (some i) e h =
+    record {
+      from = omega (arith, h .from);
+      to = omega (arith, h .to);
+      holds = h .holds;
+      none-lower = λ l m s. from-next f j l m e (λ n. h .none-lower l n s);
+    }
 
 search-at : (f : ℕ → Bool) (j k : ℕ) → At f j k (lowestFrom f j k)
 unfolding At lowestFrom
 search-at f j zero = tt
-search-at f j (suc k) = go (f j) refl (later f j k (lowestFrom f (j + 1) k) (search-at f (j + 1) k))
+search-at f j (suc k) = go (f j) refl (search-at f (j + 1) k)
   where
-    go : (t : Bool) → f j ≡ t → At f j (suc k) (lowestFrom f (j + 1) k) → At f j (suc k) (cond t (some j) (lowestFrom f (j + 1) k))
-    go true e h = record { from = omega arith; to = omega arith; holds = e }
-    go false e h = h
+    go : (t : Bool) → f j ≡ t → At f (j + 1) k (lowestFrom f (j + 1) k) → At f j (suc k) (cond t (some j) (lowestFrom f (j + 1) k))
+    go true e h = record { from = omega arith; to = omega arith; holds = e; none-lower = λ l m s. absurd (omega arith) }
+    go false e h = later f j k (lowestFrom f (j + 1) k) e h
 
 pub found : (f : ℕ → Bool) (j k i : ℕ) → lowestFrom f j k ≡ some i → Found f j k i
 unfolding At
@@ -43,7 +55,7 @@ not-found f j (suc k) e i l h = go (f j) refl e (λ n s. not-found f (j + 1) k n
   where
     go : (t : Bool) → f j ≡ t → cond t (some j) (lowestFrom f (j + 1) k) ≡ none → (lowestFrom f (j + 1) k ≡ none → j + 1 ≤ i → f i ≡ false) → f i ≡ false
     go true q n rest = let z : _≡_ {A = ℕ} 0 1 = cc in absurd (omega arith)
-    go false q n rest = ⊎-elim (λ s. ap f (sym s) ∙ q) (λ s. rest n (omega arith)) (eq-or-lt-of-le l)
+    go false q n rest = from-next f j i l q (rest n)
 
 -- ---- one place at a time
 

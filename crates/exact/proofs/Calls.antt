@@ -1,66 +1,33 @@
 -- Calls: the meter accepts what E accepts, and the tie is kept by every call, accepted or refused.
 use mathlib.Core.Bool.{Bool, true, false, cond, not, _&&_}
-use mathlib.Core.List.{List, [], _∷_}
+use mathlib.Core.List.{List, [], _∷_, _++_}
+use mathlib.Core.Logic.{_↔_}
 use mathlib.Core.Path.{_≡_, refl, sym, _∙_, ap, ap₂, subst}
 use Prim.Native.Nat.{ℕ, zero, suc, _+_, _*_, _^_, _≤_, zero-le}
 use native.Mathlib.Omega.{arith}
-use borrow.Author.Tests.{ltb-true, ltb-false, le-leb, lt-leb, leb-true, eqb-true}
-use lib.Dec.{T, eqb, leb, ltb}
+use borrow.Author.Tests.{ltb-false, le-ltb, le-leb, leb-true, eqb-true, eq-eqb, ne-eqb, not-false}
+use lib.Dec.{T, eqb, leb}
 use lib.IntN.{ℤ}
 use lib.ListN.{length, getD}
+use Rattle.refusal.specs.First.{NoneApplies}
 use Rattle.refusal.proofs.Laws.{both}
 use Rattle.rate.specs.Rates.{rowOf, isNamed}
 use Rattle.rate.proofs.Laws.{row-keeps}
-use Rattle.refusal.specs.First.{firstOf}
+use Rattle.setting.specs.declared.Setting.{Setting}
+use Rattle.setting.specs.Settings.{kOf, iOf}
 use Rattle.block.specs.Block.{number, rateCode, count, before, samplesAt, samples as samplesIn}
-use Rattle.block.proofs.Laws.{signed-fits, samples-at-length}
-use Rattle.block.specs.Refusals.{wrongLength, wrongCheck, wrongKind, wrongRate, wrongCount, usedUnused, blockRules, sound}
+use Rattle.block.specs.Refusals.{wrongRate, blockRules, sound}
+use Rattle.block.proofs.Laws.{sound-is, is-sound, signed-fits, samples-at-length}
 use Rattle.sample.specs.Sample.{freshState, samples}
 use Rattle.meter.specs.declared.Meter.{Meter}
-use Rattle.meter.specs.Settings.{kOf, iOf}
-use Rattle.meter.specs.Refusals.{impossible, longChunk, wrongPlace, tooMany, chunkRules, blockCallRules}
-use Rattle.meter.specs.Calls.{fresh, afterSamples, chunkCall, blockCall}
+use Rattle.meter.specs.Refusals.{unnamedCode, impossible, longChunk, wrongPlace, tooMany, openRules, chunkRules, blockCallRules}
+use Rattle.meter.specs.Calls.{fresh, afterSamples, openCall, chunkCall, blockCall}
+use Rattle.meter.proofs.Laws.{open-given, chunk-given, block-given, opened}
 use Rattle.meter.proofs.Possible.{Possible, passes}
-use Rattle.exact.specs.Exact.{E, startAt, start, takeAll, accepts, samplesOf, fed, exactly, acceptedByE}
-use Rattle.exact.specs.Lists.{Call, chunk, block, AllSamples, Typed, called, after, accepted}
+use Rattle.exact.specs.Calls.{Call, chunk, block, AllSamples, Typed, samplesOf}
+use Rattle.exact.specs.Exact.{E, startAt, start, takeAll, accepts, fed, exactly, answersOfE, took}
+use Rattle.exact.specs.Lists.{called, accepted, after, answers, taken}
 use Rattle.exact.proofs.Tied.{Tied, same-code, same-K, same-I, total, tied-samples, tied-fresh}
-
--- ---- the answers, as tests
-
-not-above : (a b : ℕ) → not (ltb a b) ≡ leb b a
-not-above a b = go (ltb a b) refl
-  where
-    go : (t : Bool) → ltb a b ≡ t → not t ≡ leb b a
-    go true e = sym (lt-leb b a (ltb-true a b e))
-    go false e = sym (le-leb b a (ltb-false a b e))
-
-chunk-answer : (i l t : Bool) → i ≡ false → eqb (firstOf ((2, i) ∷ (3, l) ∷ (11, t) ∷ [])) 0 ≡ not l && not t
-unfolding firstOf
-chunk-answer true l t e = absurd (subst T e tt)
-chunk-answer false true t e = refl
-chunk-answer false false true e = refl
-chunk-answer false false false e = refl
-
-and-no : (a : Bool) → a && false ≡ false
-and-no true = refl
-and-no false = refl
-
-block-answer : (i b4 b5 b6 k b8 b9 named p t : Bool) → i ≡ false → (k ≡ true → named ≡ true)
-    → eqb (firstOf ((2, i) ∷ (4, b4) ∷ (5, b5) ∷ (6, b6) ∷ (7, not k) ∷ (8, b8) ∷ (9, b9) ∷ (10, not p) ∷ (11, t) ∷ [])) 0
-    ≡ (not b4 && not b5 && not b6 && not b8 && not b9 && named) && k && p && not t
-unfolding firstOf
-block-answer true b4 b5 b6 k b8 b9 named p t e f = absurd (subst T e tt)
-block-answer false true b5 b6 k b8 b9 named p t e f = refl
-block-answer false false true b6 k b8 b9 named p t e f = refl
-block-answer false false false true k b8 b9 named p t e f = refl
-block-answer false false false false false b8 b9 named p t e f =
-    ap (λ (x : Bool). x && p && not t) (sym (and-no (not b8 && not b9 && named)))
-block-answer false false false false true true b9 named p t e f = refl
-block-answer false false false false true false true named p t e f = refl
-block-answer false false false false true false false false p t e f = absurd (subst T (sym (f refl)) tt)
-block-answer false false false false true false false true false t e f = refl
-block-answer false false false false true false false true true true e f = refl
-block-answer false false false false true false false true true false e f = refl
 
 -- ---- the invariant
 
@@ -97,17 +64,65 @@ module _ (m : Meter) (e : E) (g : Good m e) where
         h-rises = λ j l. t .falls j (omega arith) .hang;
       }
 
-  -- the meter accepts what E accepts
-  pub agree : (call : Call) → eqb (called m call .number) 0 ≡ accepts e call
-  unfolding called chunkCall blockCall chunkRules blockCallRules blockRules accepts sound longChunk wrongPlace tooMany wrongRate
-  agree (chunk xs) =
-      chunk-answer (impossible m) (ltb 4096 (length xs)) (ltb (2 ^ 48) (m .state .sums .n + length xs)) (passes m good-possible)
-      ∙ ap₂ _&&_ (not-above 4096 (length xs)) (not-above (2 ^ 48) (m .state .sums .n + length xs) ∙ ap (λ (y : ℕ). leb (y + length xs) (2 ^ 48)) (g .tied .taken))
-  agree (block b) =
-      block-answer (impossible m) (wrongLength b) (wrongCheck b) (wrongKind b) (eqb (rateCode b) (m .setting .code)) (wrongCount b) (usedUnused b) (isNamed (rateCode b))
-      (eqb (before b) (m .state .sums .n)) (ltb (2 ^ 48) (m .state .sums .n + count b)) (passes m good-possible)
-      (λ h. ap isNamed (eqb-true _ _ h ∙ g .code) ∙ g .named)
-      ∙ rw (not-above (2 ^ 48) (m .state .sums .n + count b), g .code, g .tied .taken)
+  -- the meter accepts what E accepts: no rule of the call applies
+  chunk-agree : (xs : List ℤ) → NoneApplies (chunkRules m xs) ↔ (accepts e (chunk xs) ≡ true)
+  unfolding NoneApplies chunkRules accepts longChunk tooMany
+  chunk-agree xs = (
+    λ n. simp (le-leb _ _ (ltb-false 4096 (length xs) (n .1 .0)), le-leb (e .y + length xs) (2 ^ 48) (omega (arith, ltb-false (2 ^ 48) (m .state .sums .n + length xs) (n .1 .1 .0), g .tied .taken))),
+    λ h. let p = both (leb (length xs) 4096) _ h in (
+      passes m good-possible,
+      (le-ltb 4096 (length xs) (leb-true _ _ (p .0)), (le-ltb (2 ^ 48) (m .state .sums .n + length xs) (omega (arith, leb-true (e .y + length xs) (2 ^ 48) (p .1), g .tied .taken)), tt)),
+    ),
+  )
+
+  block-agree : (b : List ℕ) → NoneApplies (blockCallRules m b) ↔ (accepts e (block b) ≡ true)
+  unfolding NoneApplies blockCallRules blockRules accepts wrongRate wrongPlace tooMany
+  block-agree b = (
+    λ n. let n4 = n .1 in
+    let n7 = n4 .1 .1 .1 in
+    let n10 = n7 .1 .1 .1 in
+    let rate : rateCode b ≡ e .code = eqb-true _ _ (not-false _ (n7 .0)) ∙ g .code in
+    let fits = is-sound b
+        (record {
+          length-ok = n4 .0;
+          check-ok = n4 .1 .0;
+          kind-ok = n4 .1 .1 .0;
+          count-ok = n7 .1 .0;
+          unused-ok = n7 .1 .1 .0;
+          named = ap isNamed rate ∙ g .named;
+        }) in
+    simp
+    (fits,
+    eq-eqb _ _ rate,
+    eq-eqb (before b) (e .y) (eqb-true _ _ (not-false _ (n10 .0)) ∙ g .tied .taken),
+    le-leb (e .y + count b) (2 ^ 48) (omega (arith, ltb-false (2 ^ 48) (m .state .sums .n + count b) (n10 .1 .0), g .tied .taken))),
+    λ h. let h4 = both (sound b && eqb (rateCode b) (e .code) && eqb (before b) (e .y)) _ h in
+    let h3 = both (sound b && eqb (rateCode b) (e .code)) _ (h4 .0) in
+    let h2 = both (sound b) _ (h3 .0) in
+    let s = sound-is b (h2 .0) in
+    let rate = eq-eqb (rateCode b) (m .setting .code) (eqb-true _ _ (h2 .1) ∙ sym (g .code)) in
+    let place = eq-eqb (before b) (m .state .sums .n) (eqb-true _ _ (h3 .1) ∙ sym (g .tied .taken)) in (
+      passes m good-possible,
+      (s .length-ok,
+      (s .check-ok,
+      (s .kind-ok,
+      (ap not rate,
+      (s .count-ok,
+      (s .unused-ok,
+      (ap not place,
+      (le-ltb (2 ^ 48) (m .state .sums .n + count b) (omega (arith, leb-true (e .y + count b) (2 ^ 48) (h4 .1), g .tied .taken)), tt)))))))),
+    ),
+  )
+
+  -- a number is 0 exactly where a test holds
+  same-test : (k : ℕ) (t : Bool) {P : Type 0} → (k ≡ 0) ↔ P → P ↔ (t ≡ true) → eqb k 0 ≡ t
+  same-test k true f h = eq-eqb k 0 (f .1 (h .1 refl))
+  same-test k false f h = ne-eqb k 0 (λ z. absurd (subst T (sym (h .0 (f .0 z))) tt))
+
+  pub agree : (call : Call) → accepted m call ≡ accepts e call
+  unfolding accepted called
+  agree (chunk xs) = same-test _ _ (chunk-given m xs .0 .accepted) (chunk-agree xs)
+  agree (block b) = same-test _ _ (block-given m b .0 .accepted) (block-agree b)
 
   -- the tie is kept by the samples of an accepted call
   good-samples : (xs : List ℤ) → AllSamples xs → e .y + length xs ≤ 2 ^ 48 → Good (afterSamples m xs) (takeAll e xs)
@@ -150,8 +165,8 @@ good-taken m e g (block b) f h =
     (subst (λ (k : ℕ). e .y + k ≤ 2 ^ 48) (sym (samples-at-length b 12 (count b))) (leb-true _ _ (both (sound b && eqb (rateCode b) (e .code) && eqb (before b) (e .y)) _ h .1)))
 
 -- what a call hands back, by its answer
-handed-meter : (m : Meter) (call : Call) → called m call .meter ≡ cond (eqb (called m call .number) 0) (afterSamples m (samplesOf call)) m
-unfolding called chunkCall blockCall samplesOf
+pub handed-meter : (m : Meter) (call : Call) → called m call .meter ≡ cond (accepted m call) (afterSamples m (samplesOf call)) m
+unfolding accepted called chunkCall blockCall samplesOf
 handed-meter m (chunk xs) = refl
 handed-meter m (block b) = refl
 
@@ -183,21 +198,39 @@ good-after (call ∷ calls) m e f g =
     let s = split call calls f in
     good-after calls (called m call .meter) (fed e call) (s .1) (good-call m e g call (s .0))
 
-pub same-answers : (calls : List Call) (m : Meter) (e : E) → Typed calls → Good m e → accepted m calls ≡ acceptedByE e calls
-unfolding accepted acceptedByE
+pub same-answers : (calls : List Call) (m : Meter) (e : E) → Typed calls → Good m e → answers m calls ≡ answersOfE e calls
+unfolding answers answersOfE
 same-answers [] m e f g = refl
 same-answers (call ∷ calls) m e f g =
     let s = split call calls f in
     ap₂ _∷_ (agree m e g call) (same-answers calls (called m call .meter) (fed e call) (s .1) (good-call m e g call (s .0)))
 
-pub good-fresh : (code : ℕ) → isNamed code ≡ true → Good (fresh (record { code = code })) (start code)
-unfolding start startAt fresh freshState iOf
-good-fresh code n =
+pub same-samples : (calls : List Call) (m : Meter) (e : E) → Typed calls → Good m e → taken m calls ≡ took e calls
+unfolding taken took
+same-samples [] m e f g = refl
+same-samples (call ∷ calls) m e f g =
+    let s = split call calls f in
+    ap₂ _++_
+    (ap (λ (t : Bool). cond t (samplesOf call) []) (agree m e g call))
+    (same-samples calls (called m call .meter) (fed e call) (s .1) (good-call m e g call (s .0)))
+
+-- ---- from the opening on
+
+named-by : (c : Setting) → openCall c .number ≡ 0 → isNamed (c .code) ≡ true
+unfolding NoneApplies openRules unnamedCode
+named-by c z = not-false _ (open-given c .0 .accepted .0 z .0)
+
+good-fresh : (c : Setting) → isNamed (c .code) ≡ true → Good (fresh c) (start c)
+unfolding start startAt fresh iOf freshState
+good-fresh c n =
     record {
       named = n;
       K-is = refl;
       I-is = refl;
       code = refl;
       few = zero-le;
-      tied = tied-fresh (rowOf code .d) code (rowOf code .k) (rowOf code .i);
+      tied = tied-fresh (rowOf (c .code) .d) (c .code) (rowOf (c .code) .k) (rowOf (c .code) .i);
     }
+
+pub good-open : (c : Setting) → openCall c .number ≡ 0 → Good (openCall c .meter) (start c)
+good-open c z = subst (λ (m : Meter). Good m (start c)) (sym (opened c z)) (good-fresh c (named-by c z))

@@ -1,5 +1,7 @@
 mod Calls
+pub mod Claim
 pub mod Demand3
 mod Envelope
+pub mod Fractions
 pub mod Lost
 pub mod Tied

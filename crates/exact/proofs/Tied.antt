@@ -25,8 +25,8 @@ use Rattle.sample.proofs.Signs.{small}
 use Rattle.signed.proofs.Sizes.{abs-sum}
 use Rattle.exact.specs.Exact.{E, startAt, reaches, countNext, hangoverNext, take, takeAll}
 use Rattle.rate.specs.Rates.{Ceiling}
-use Rattle.exact.specs.Demands.{envelopeAfter, exactEnvelopeAfter, EnvelopeBound}
-use Rattle.exact.specs.Lists.{AllSamples}
+use Rattle.exact.specs.Calls.{AllSamples}
+use Rattle.exact.specs.Envelope.{envelopeAfter, exactEnvelopeAfter, EnvelopeBound}
 use Rattle.exact.proofs.Envelope.{Near, near-step, near-zero, near-below, fed-exact, fed-near, then-exact, then-rounded}
 
 -- ---- what E keeps
@@ -91,7 +91,7 @@ rises j = pow-mono {i = j + 24} {j = j + 1 + 24} (omega arith)
 power-pos : (i : ℕ) → 0 < (2 ^ 20) ^ i
 power-pos i = one-le-pow i (2 ^ 20) (lit≤ tt)
 
-power-next : (i : ℕ) → (2 ^ 20) ^ i * 2 ^ 20 ≡ (2 ^ 20) ^ (i + 1)
+pub power-next : (i : ℕ) → (2 ^ 20) ^ i * 2 ^ 20 ≡ (2 ^ 20) ^ (i + 1)
 power-next i = sym (ap (λ (k : ℕ). (2 ^ 20) ^ k) (add-one i) ∙ pow-suc (2 ^ 20) i)
 
 module _ (D : ℕ) (m : State) (e : E) (x : ℤ) (k0 : 0 < e .K) (kG : e .K ≤ 2 ^ 20) (wide : 2 ^ 21 ≤ D * e .K) (sx : natAbs x ≤ 2 ^ 15) (t : Tied D m e) where

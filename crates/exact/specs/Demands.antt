@@ -1,76 +1,62 @@
--- Demand 3, and what is promised beside it: statements about a named rate code and any list of calls from a fresh meter.
-use mathlib.Core.Bool.{true, false}
+-- The whole claim: the customer's three demands, each a record with a field for each clause of its sentence, and `Claim`, that all three hold. What
+-- only the check of the code can show stands as a comment that names the contracts.
+use mathlib.Core.Bool.{Bool, true, false}
 use mathlib.Core.List.{List, [], _∷_}
-use mathlib.Core.Logic.{_⊎_}
+use mathlib.Core.Logic.{_↔_}
 use mathlib.Core.Path.{_≡_}
 use Prim.Native.Nat.{ℕ, _+_, _*_, _^_, _≤_, _<_}
 use lib.IntN.{ℤ, pos, natAbs, _+ℤ_}
 use lib.ListN.{length, getD}
+use lib.Signed.{ltZ}
 use Rattle.level.specs.Logarithm.{number}
-use Rattle.rate.specs.Rates.{rowOf, isNamed}
+use Rattle.refusal.specs.First.{Rule, NoneApplies, Given, Lowest}
+use Rattle.setting.specs.declared.Setting.{Setting}
+use Rattle.setting.specs.Settings.{kOf, iOf, dOf}
+use Rattle.block.specs.Block.{samples as samplesIn}
+use Rattle.block.specs.Refusals.{hostRules, hostCheck}
 use Rattle.sample.specs.Envelope.{threshold}
 use Rattle.sample.specs.Sample.{freshState, samples}
 use Rattle.meter.specs.declared.Meter.{Meter}
 use Rattle.meter.specs.declared.Report.{Report}
-use Rattle.meter.specs.Calls.{fresh, reportCall}
-use Rattle.meter.specs.Refusals.{impossible}
-use Rattle.exact.specs.Exact.{E, startAt, start, takeAll, exactly, acceptedByE, took}
-use Rattle.exact.specs.Lists.{Call, Typed, after, accepted}
+use Rattle.meter.specs.Answered.{Answered}
+use Rattle.meter.specs.Calls.{Handed, HandedReport, afterSamples, openCall, chunkCall, blockCall, reportCall}
+use Rattle.meter.specs.Opened.{Fresh, Zeros}
+use Rattle.meter.specs.Refusals.{impossible, openRules, chunkRules, blockCallRules}
+use Rattle.meter.specs.Reports.{reportRules}
+use Rattle.exact.specs.Calls.{Call, Typed}
+use Rattle.exact.specs.Exact.{E, start, exactly, answersOfE, took}
+use Rattle.exact.specs.Lists.{after, answers, taken}
 
--- Q, and the numerator of E's q, after samples from a fresh start with any K and I
-abbrev pub envelopeAfter : (K I : ℕ) → List ℤ → ℕ
-envelopeAfter K I xs = samples K I (freshState I) xs .sums .q
+-- ---- lists of calls, from the opening on
 
-abbrev pub exactEnvelopeAfter : (K I : ℕ) → List ℤ → ℕ
-exactEnvelopeAfter K I xs = takeAll (startAt 0 K I) xs .qn
+-- opening accepts a setting
+abbrev pub Opens : Setting → Type 0
+Opens c = openCall c .number ≡ 0
 
--- the envelope: Q does not exceed q, and q stays below Q + D
-pub record EnvelopeBound (K I D : ℕ) (xs : List ℤ) : Type 0 where
-  pub never-above : envelopeAfter K I xs * (2 ^ 20) ^ (length xs + 1) ≤ exactEnvelopeAfter K I xs
-  pub less-than-D : exactEnvelopeAfter K I xs < (envelopeAfter K I xs + D) * (2 ^ 20) ^ (length xs + 1)
+-- the meter after a list of calls, the first of which gets the meter that opening handed back; and the report on it
+abbrev pub meterAfter : Setting → List Call → Meter
+meterAfter c calls = after (openCall c .meter) calls
 
--- the meter and E after a list of calls
-abbrev pub meterAfter : ℕ → List Call → Meter
-meterAfter code calls = after (fresh (record { code = code })) calls
+abbrev pub reportAfter : Setting → List Call → HandedReport
+reportAfter c calls = reportCall (meterAfter c calls)
 
-abbrev pub exactAfter : ℕ → List Call → E
-exactAfter code calls = exactly (start code) calls
+-- which of the calls the meter accepted, and their samples in order
+abbrev pub answersTo : Setting → List Call → List Bool
+answersTo c calls = answers (openCall c .meter) calls
 
--- E's count at a threshold in units
+abbrev pub takenFrom : Setting → List Call → List ℤ
+takenFrom c calls = taken (openCall c .meter) calls
+
+-- E after the same list, and its count at a threshold in units
+abbrev pub exactAfter : Setting → List Call → E
+exactAfter c calls = exactly (start c) calls
+
 abbrev pub countAt : E → ℕ → ℕ
 countAt e c = e .u c
 
--- the level clauses, of a report r: A is above 0; two steps more than A exceed E's exact level at the lower threshold, and two steps less than A
--- stay below E's at the upper threshold plus D
-pub record LevelBounds (r : Report) (e : E) (D : ℕ) : Type 0 where
-  pub A : ℕ
-  pub reported : r .levels .active .0 ≡ pos A
-  pub above-zero : 0 < A
-  pub plus-two : e .sq ^ 4096 < 2 ^ (A + 2) * countAt e (threshold (r .levels .lower)) ^ 4096
-  pub less-two : 2 ^ A * countAt e (threshold (r .levels .upper) + D) ^ 4096 < 4 * e .sq ^ 4096
-
--- demand 3
-pub record Demand3 (code : ℕ) (calls : List Call) : Type 0 where
-  -- both accept the same calls
-  pub same-calls : accepted (fresh (record { code = code })) calls ≡ acceptedByE (start code) calls
-  -- no count exceeds E's at its threshold
-  pub at-most : (j : ℕ) → j < 15 → getD (meterAfter code calls .state .a) j 0 ≤ countAt (exactAfter code calls) (threshold j)
-  -- or falls short of E's at that threshold plus D
-  pub at-least : (j : ℕ) → j < 15 → countAt (exactAfter code calls) (threshold j + rowOf code .d) ≤ getD (meterAfter code calls .state .a) j 0
-  -- a higher threshold never has the larger count
-  pub never-rises : (i j : ℕ) → i ≤ j → j < 15 → getD (meterAfter code calls .state .a) j 0 ≤ getD (meterAfter code calls .state .a) i 0
-  -- a report on that meter gives levels or one of 12 to 16, and never 2
-  pub level-or-refusal :
-      (reportCall (meterAfter code calls) .number ≡ 0)
-      ⊎ ((12 ≤ reportCall (meterAfter code calls) .number) × (reportCall (meterAfter code calls) .number ≤ 16))
-  -- where it gives levels, they keep to E's
-  pub levels :
-      reportCall (meterAfter code calls) .number ≡ 0
-      → LevelBounds (reportCall (meterAfter code calls) .report) (exactAfter code calls) (rowOf code .d)
-
--- the claim: demand 3 holds for every named rate code and every list of calls
-abbrev pub Claim : Type 0
-Claim = (code : ℕ) (calls : List Call) → isNamed code ≡ true → Typed calls → Demand3 code calls
+-- activity count a_j of a meter
+abbrev pub activity : Meter → ℕ → ℕ
+activity m j = getD (m .state .a) j 0
 
 -- the sum, and the sum of squares, of samples
 unfoldable pub sum : List ℤ → ℤ
@@ -81,10 +67,87 @@ unfoldable pub sumOfSquares : List ℤ → ℕ
 sumOfSquares [] = 0
 sumOfSquares (x ∷ xs) = natAbs x * natAbs x + sumOfSquares xs
 
--- nothing is lost and nothing wraps: n, s and sq are those of the samples of the accepted calls, and refusal 2 does not apply
-pub record NothingLost (code : ℕ) (calls : List Call) : Type 0 where
-  pub total : meterAfter code calls .state .sums .n ≡ length (took (start code) calls)
-  pub sums : meterAfter code calls .state .sums .s ≡ sum (took (start code) calls)
-  pub squares : number (meterAfter code calls .state .sums .sq) ≡ sumOfSquares (took (start code) calls)
-  pub exact-squares : exactAfter code calls .sq ≡ sumOfSquares (took (start code) calls)
-  pub possible : impossible (meterAfter code calls) ≡ false
+-- ---- demand 1: "No input and no order of calls may stop the meter, wrap a sum or spoil a running measurement"
+
+-- after a list of calls n, s and sq are those of the accepted ones' samples, and no call is refused with 2
+pub record NothingLost (c : Setting) (calls : List Call) : Type 0 where
+  pub total : meterAfter c calls .state .sums .n ≡ length (takenFrom c calls)
+  pub sums : meterAfter c calls .state .sums .s ≡ sum (takenFrom c calls)
+  pub squares : number (meterAfter c calls .state .sums .sq) ≡ sumOfSquares (takenFrom c calls)
+  pub possible : impossible (meterAfter c calls) ≡ false
+
+-- the number given to a call is that of the first of its rules that applies, which is the lowest; 0 where none applies
+abbrev pub Numbered : List Rule → ℕ → Type 0
+Numbered rules k = Given rules k × Lowest rules k
+
+pub record Demand1 : Type 0 where
+  -- "every call ends": the check proves of every function that it returns. `Meter::open`, `Meter::chunk`, `Meter::block`, `Meter::report` and
+  -- `hoggetwhirl_check_block` have no `requires`: they return for every argument whatever
+  -- "wrap a sum or spoil a running measurement"
+  pub nothing-lost : (c : Setting) (calls : List Call) → Opens c → Typed calls → NothingLost c calls
+  -- "whatever is wrong gets the refusal that document 01 numbers for it"
+  pub open-number : (c : Setting) → Numbered (openRules c) (openCall c .number)
+  pub chunk-number : (m : Meter) (xs : List ℤ) → Numbered (chunkRules m xs) (chunkCall m xs .number)
+  pub block-number : (m : Meter) (b : List ℕ) → Numbered (blockCallRules m b) (blockCall m b .number)
+  pub report-number : (m : Meter) → Numbered (reportRules m) (reportCall m .number)
+  pub host-number : (b : List ℕ) (code : ℕ) → Numbered (hostRules b code) (hostCheck b code)
+  -- "a refused call gives back the meter it was handed"; opening was handed none, and gives one of all zeros, which every later call refuses with 2
+  pub chunk-refused : (m : Meter) (xs : List ℤ) → 0 < chunkCall m xs .number → chunkCall m xs .meter ≡ m
+  pub block-refused : (m : Meter) (b : List ℕ) → 0 < blockCall m b .number → blockCall m b .meter ≡ m
+  pub report-hands-back : (m : Meter) → reportCall m .meter ≡ m
+  pub open-refused : (c : Setting) → 0 < openCall c .number → Zeros (openCall c .meter)
+  pub zeros-chunk : (m : Meter) → Zeros m → (xs : List ℤ) → chunkCall m xs .number ≡ 2
+  pub zeros-block : (m : Meter) → Zeros m → (b : List ℕ) → blockCall m b .number ≡ 2
+  pub zeros-report : (m : Meter) → Zeros m → reportCall m .number ≡ 2
+  -- "writes into nothing lent": `Meter::chunk` and `Meter::block` are lent `&[i16]` and `&[u8]`, which nothing can be written through, and
+  -- `hoggetwhirl_check_block` too
+
+-- ---- demand 2: "Nothing reported may differ from method B"
+
+pub record Demand2 : Type 0 where
+  -- "sums, envelope, counts": opening gives the fresh meter, and after a list of calls the meter is the one that document 01's formulas lead to over
+  -- the accepted ones' samples, in order, however they were cut into calls
+  pub opened : (c : Setting) → Opens c → Fresh c (openCall c .meter)
+  pub measured : (c : Setting) (calls : List Call) → Opens c
+      → meterAfter c calls ≡ record { setting = c; state = samples (kOf c) (iOf c) (freshState (iOf c)) (takenFrom c calls) }
+  -- "crossing, levels and factor": a report on any meter that 2 lets pass is document 01's; F is never above 0
+  pub reported : (m : Meter) → impossible m ≡ false → Answered m (reportCall m .number) (reportCall m .report)
+  pub factor : (m : Meter) → reportCall m .number ≡ 0 → ltZ (pos 0) (reportCall m .report .levels .factor .0) ≡ false
+  -- "a sample block is taken exactly when it breaks none of the rules"; taken, its samples are
+  pub block-taken : (m : Meter) (b : List ℕ) → (blockCall m b .number ≡ 0) ↔ NoneApplies (blockCallRules m b)
+  pub block-samples : (m : Meter) (b : List ℕ) → blockCall m b .number ≡ 0 → blockCall m b .meter ≡ afterSamples m (samplesIn b)
+  -- an empty chunk is accepted where 2 does not refuse the meter, and changes nothing
+  pub empty-chunk : (m : Meter) → impossible m ≡ false → chunkCall m [] ≡ record { number = 0; meter = m }
+
+-- ---- demand 3: "For every list of chunk calls and block calls, refused ones among them, from a fresh meter at any named rate"
+
+-- the level clauses, of a report r: A is above 0; A plus two steps is above E's exact level at the lower threshold, and A less two steps below E's at
+-- the upper threshold raised by D
+pub record LevelBounds (r : Report) (e : E) (D : ℕ) : Type 0 where
+  pub A : ℕ
+  pub reported : r .levels .active .0 ≡ pos A
+  pub above-zero : 0 < A
+  pub plus-two : e .sq ^ 4096 < 2 ^ (A + 2) * countAt e (threshold (r .levels .lower)) ^ 4096
+  pub less-two : 2 ^ A * countAt e (threshold (r .levels .upper) + D) ^ 4096 < 4 * e .sq ^ 4096
+
+pub record Demand3 (c : Setting) (calls : List Call) : Type 0 where
+  -- "The meter accepts exactly the calls that E accepts", and so takes the samples that E takes, whose squares E adds up
+  pub same-calls : answersTo c calls ≡ answersOfE (start c) calls
+  pub same-samples : takenFrom c calls ≡ took (start c) calls
+  pub exact-squares : exactAfter c calls .sq ≡ sumOfSquares (took (start c) calls)
+  -- "Each activity count is at most E's count at that threshold, and at least E's count at the threshold raised by document 01's D"
+  pub at-most : (j : ℕ) → j < 15 → activity (meterAfter c calls) j ≤ countAt (exactAfter c calls) (threshold j)
+  pub at-least : (j : ℕ) → j < 15 → countAt (exactAfter c calls) (threshold j + dOf c) ≤ activity (meterAfter c calls) j
+  -- "No count rises with the threshold"
+  pub never-rises : (i j : ℕ) → i ≤ j → j < 15 → activity (meterAfter c calls) j ≤ activity (meterAfter c calls) i
+  -- "A report on that meter is document 01's report, level or refusal"
+  pub report : Answered (meterAfter c calls) (reportAfter c calls .number) (reportAfter c calls .report)
+  -- "and where it gives levels", they keep to E's
+  pub levels : reportAfter c calls .number ≡ 0 → LevelBounds (reportAfter c calls .report) (exactAfter c calls) (dOf c)
+
+-- ---- the claim
+
+pub record Claim : Type 0 where
+  pub demand1 : Demand1
+  pub demand2 : Demand2
+  pub demand3 : (c : Setting) (calls : List Call) → Opens c → Typed calls → Demand3 c calls

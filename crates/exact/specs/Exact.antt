@@ -1,4 +1,5 @@
--- E, the plain machine of demand 3: document 01, "One sample". It is fed the rate code and the calls' arguments, and nothing of the meter.
+-- E, the plain machine of demand 3: document 01, "One sample". It is fed the rate code of the setting and the calls' arguments, and nothing of the
+-- meter.
 use mathlib.Core.Bool.{Bool, cond, _&&_}
 use mathlib.Core.List.{List, [], _∷_, _++_}
 use Prim.Native.Nat.{ℕ, _+_, _-_, _*_, _^_}
@@ -6,9 +7,10 @@ use lib.Dec.{eqb, leb, ltb}
 use lib.IntN.{ℤ, natAbs}
 use lib.ListN.{length}
 use Rattle.rate.specs.Rates.{rowOf}
-use Rattle.block.specs.Block.{rateCode, count, before, samples}
+use Rattle.block.specs.Block.{rateCode, count, before}
 use Rattle.block.specs.Refusals.{sound}
-use Rattle.exact.specs.Lists.{Call, chunk, block}
+use Rattle.setting.specs.declared.Setting.{Setting}
+use Rattle.exact.specs.Calls.{Call, chunk, block, samplesOf}
 
 -- the code with its K and I, the total y, the fractions p = pn/(2^20)^y and q = qn/(2^20)^(y+1), for each threshold c in units a count u(c)
 -- and a hangover v(c), and the sum of the squares of the samples taken
@@ -28,8 +30,8 @@ unfoldable pub startAt : (code K I : ℕ) → E
 startAt code K I =
     record { code = code; K = K; I = I; y = 0; pn = 0; qn = 0; u = λ c. 0; v = λ c. I; sq = 0 }
 
-unfoldable pub start : ℕ → E
-start code = startAt code (rowOf code .k) (rowOf code .i)
+unfoldable pub start : Setting → E
+start c = startAt (c .code) (rowOf (c .code) .k) (rowOf (c .code) .i)
 
 -- q ≥ c, for q = qn/(2^20)^(y+1)
 unfoldable pub reaches : (y qn c : ℕ) → Bool
@@ -71,11 +73,6 @@ unfoldable pub accepts : E → Call → Bool
 accepts e (chunk xs) = leb (length xs) 4096 && leb (e .y + length xs) (2 ^ 48)
 accepts e (block b) = sound b && eqb (rateCode b) (e .code) && eqb (before b) (e .y) && leb (e .y + count b) (2 ^ 48)
 
--- the samples that a call brings
-unfoldable pub samplesOf : Call → List ℤ
-samplesOf (chunk xs) = xs
-samplesOf (block b) = samples b
-
 -- E after a call, which it takes or leaves
 unfoldable pub fed : E → Call → E
 fed e call = cond (accepts e call) (takeAll e (samplesOf call)) e
@@ -86,9 +83,9 @@ exactly e [] = e
 exactly e (call ∷ calls) = exactly (fed e call) calls
 
 -- which calls of a list E accepts
-unfoldable pub acceptedByE : E → List Call → List Bool
-acceptedByE e [] = []
-acceptedByE e (call ∷ calls) = accepts e call ∷ acceptedByE (fed e call) calls
+unfoldable pub answersOfE : E → List Call → List Bool
+answersOfE e [] = []
+answersOfE e (call ∷ calls) = accepts e call ∷ answersOfE (fed e call) calls
 
 -- the samples that E took, in order
 unfoldable pub took : E → List Call → List ℤ

@@ -1,33 +1,20 @@
--- Calls, and what the meter makes of a list of them: document 01, "One sample". Each call is given what the one before handed back.
-use mathlib.Core.Bool.{Bool}
-use mathlib.Core.List.{List, [], _∷_}
-use Prim.Native.Nat.{ℕ}
+-- What the meter makes of a list of calls: document 01, "One sample". Each call is given what the one before handed back.
+use mathlib.Core.Bool.{Bool, cond}
+use mathlib.Core.List.{List, [], _∷_, _++_}
 use lib.Dec.{eqb}
 use lib.IntN.{ℤ}
-use mir.Syntax.{w16}
-use mir.Val.{SFits}
 use Rattle.meter.specs.declared.Meter.{Meter}
 use Rattle.meter.specs.Calls.{Handed, chunkCall, blockCall}
-
--- a call's arguments other than the meter
-pub data Call : Type 0 where
-  chunk : List ℤ → Call
-  block : List ℕ → Call
-
--- the samples of each chunk are signed 16-bit numbers, as their type says
-unfoldable pub AllSamples : List ℤ → Type 0
-AllSamples [] = Unit {0}
-AllSamples (x ∷ xs) = SFits w16 x × AllSamples xs
-
-unfoldable pub Typed : List Call → Type 0
-Typed [] = Unit {0}
-Typed (chunk xs ∷ calls) = AllSamples xs × Typed calls
-Typed (block b ∷ calls) = Typed calls
+use Rattle.exact.specs.Calls.{Call, chunk, block, samplesOf}
 
 -- what the meter hands back
 unfoldable pub called : Meter → Call → Handed
 called m (chunk xs) = chunkCall m xs
 called m (block b) = blockCall m b
+
+-- whether it accepted the call
+unfoldable pub accepted : Meter → Call → Bool
+accepted m call = eqb (called m call .number) 0
 
 -- the meter after a list of calls
 unfoldable pub after : Meter → List Call → Meter
@@ -35,6 +22,11 @@ after m [] = m
 after m (call ∷ calls) = after (called m call .meter) calls
 
 -- which calls of a list the meter accepts
-unfoldable pub accepted : Meter → List Call → List Bool
-accepted m [] = []
-accepted m (call ∷ calls) = eqb (called m call .number) 0 ∷ accepted (called m call .meter) calls
+unfoldable pub answers : Meter → List Call → List Bool
+answers m [] = []
+answers m (call ∷ calls) = accepted m call ∷ answers (called m call .meter) calls
+
+-- the samples of those calls, in order
+unfoldable pub taken : Meter → List Call → List ℤ
+taken m [] = []
+taken m (call ∷ calls) = cond (accepted m call) (samplesOf call) [] ++ taken (called m call .meter) calls

@@ -14,7 +14,7 @@ use Rattle.crossing.specs.Crossing.{isCrossing, lowestFrom, crossing, lowerOf, 
 use Rattle.crossing.specs.Found.{levelsAt, noLevels, crossingIn, firstExcess}
 use Rattle.meter.specs.Refusals.{someBelow, unnamedCode, unnamedSetting, manySamples, largeSum, largeSquares, largeEnvelope, longHangover, largeCount, risingCounts, fallingHangovers, impossible, longChunk, wrongPlace, tooMany, chunkRules, blockCallRules}
 use Rattle.meter.specs.Reports.{crossingOf, firstOfMeter, noSamples, noSignal, noActivity, levelBelow, levelAbove, reportRules, noReport, reportAt, reportFor}
-use Rattle.meter.specs.Settings.{kOf, iOf}
+use Rattle.setting.specs.Settings.{kOf, iOf}
 use Rattle.meter.specs.Calls.{fresh, afterSamples, chunkCall, blockCall, reportCall}
 use Rattle.exact.specs.Exact.{startAt, start, reaches, countNext, hangoverNext, take, takeAll, accepts, samplesOf, fed, exactly}
 use Rattle.exact.specs.Lists.{called, after}

@@ -4,7 +4,7 @@ ghost use mathlib.Core.Path.{_≡_};
 ghost use lib.ListN.{length};
 use level::Squares;
 use meter::Meter;
-use meter::Setting;
+use setting::Setting;
 use sample::State;
 use sample::Sums;
 

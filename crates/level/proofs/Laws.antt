@@ -161,17 +161,17 @@ facts = record { never-falls = never-falls; at-most = λ n h u. at-most n h; les
 
 -- ---- what an answer tells its caller
 
-answered : (n : ℕ) → 1 ≤ n → n ≤ 2 ^ 80 → levelOf n ≡ some (pos (lev n))
+pub level-exists : (n : ℕ) → 1 ≤ n → n ≤ 2 ^ 80 → levelOf n ≡ some (pos (lev n))
 unfolding levelOf
-answered n h u = simp (le-leb 1 n h, le-leb n (2 ^ 80) u)
+level-exists n h u = simp (le-leb 1 n h, le-leb n (2 ^ 80) u)
 
 pub level-read : (n : ℕ) (r : Level) (s : Steps) → 1 ≤ n → n ≤ 2 ^ 80 → valueOf r ≡ levelOf n → r ≡ At s → s .0 ≡ pos (lev n)
 unfolding valueOf
-level-read n r s h u e f = let q : some (s .0) ≡ some (pos (lev n)) = sym (ap valueOf f) ∙ e ∙ answered n h u in cc
+level-read n r s h u e f = let q : some (s .0) ≡ some (pos (lev n)) = sym (ap valueOf f) ∙ e ∙ level-exists n h u in cc
 
 pub level-some : (n : ℕ) (r : Level) → 1 ≤ n → n ≤ 2 ^ 80 → valueOf r ≡ levelOf n → r ≡ None → ⊥
 unfolding valueOf
 level-some n r h u e f =
-    let q : none ≡ some (pos (lev n)) = sym (ap valueOf f) ∙ e ∙ answered n h u in
+    let q : none ≡ some (pos (lev n)) = sym (ap valueOf f) ∙ e ∙ level-exists n h u in
     let z : _≡_ {A = ℕ} 0 1 = cc in
     omega arith

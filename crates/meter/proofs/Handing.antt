@@ -17,7 +17,7 @@ use Rattle.meter.specs.declared.Meter.{Meter}
 use Rattle.meter.specs.Calls.{handed}
 use Rattle.meter.specs.Inner.{usableRate, Usable, Ready, refusedWith}
 use Rattle.meter.specs.Refusals.{impossible}
-use Rattle.meter.specs.Settings.{kOf, iOf}
+use Rattle.setting.specs.Settings.{kOf, iOf}
 use Rattle.meter.proofs.Possible.{possible}
 
 -- ---- the rules of a call, with the meter for an accepted one and for a refused one

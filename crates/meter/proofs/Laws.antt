@@ -1,42 +1,67 @@
--- Demands 1 and 2 over the definitions, for any meter whatever: what a refusal hands back, which number is given, when a block is taken, what the
--- meter of all zeros is told, and that a report's factor is never above 0 and its levels all exist.
-use mathlib.Core.Bool.{Bool, true, false, cond}
-use mathlib.Core.List.{List}
-use mathlib.Core.Logic.{_↔_}
-use mathlib.Core.Path.{_≡_, refl, sym, ap, _∙_, subst}
-use Prim.Native.Nat.{ℕ, zero, suc, _-_, _^_, _≤_, _<_}
-use native.Mathlib.Nat.{le-trans, lt-of-le-of-lt}
+-- Demands 1 and 2 over the definitions, for any meter whatever: which number is given, what is handed back, when a block is taken, what the meter of
+-- all zeros is told, and that a report's factor is never above 0 and its levels all exist.
+use mathlib.Core.Bool.{true, false, cond}
+use mathlib.Core.List.{List, []}
+use mathlib.Core.Logic.{_⊎_, inl, inr, _↔_}
+use mathlib.Core.Option.{some}
+use mathlib.Core.Path.{_≡_, refl, sym, ap, ap₂, _∙_, subst}
+use Prim.Native.Nat.{ℕ, _+_, _-_, _^_, _≤_, _<_}
 use native.Mathlib.Omega.{arith}
-use borrow.Author.Tests.{ne-eqb}
-use lib.Dec.{eqb}
-use lib.IntN.{ℤ, pos}
-use lib.ListN.{getD}
+use borrow.Author.Tests.{ne-eqb, le-ltb}
+use lib.Dec.{eqb, ltb, lit≤}
+use lib.IntN.{ℤ, pos, _-ℤ_}
+use lib.ListN.{length, getD}
 use lib.Signed.{ltZ}
-use Rattle.level.specs.Logarithm.{number, lev}
+use Rattle.level.specs.Logarithm.{number, lev, levelOf}
+use Rattle.level.proofs.Laws.{level-exists}
 use Rattle.rate.proofs.Laws.{zero-unnamed}
-use Rattle.refusal.specs.First.{Rule, firstOf, applies, rising}
-use Rattle.refusal.proofs.Laws.{here, lowest, only-where}
+use Rattle.refusal.specs.First.{Rule, firstOf, NoneApplies, rising, Given, Lowest}
+use Rattle.refusal.proofs.Laws.{here, past, none, given-lowest}
+use Rattle.block.specs.Block.{samples}
 use Rattle.block.specs.Refusals.{blockRules}
+use Rattle.sample.specs.Sample.{listFrom, fifteen, words, freshState, samples as stateAfter}
+use Rattle.crossing.specs.Found.{margin}
+use Rattle.crossing.proofs.Bounds.{Crossed, crossed, factor}
+use Rattle.setting.specs.declared.Setting.{Setting}
+use Rattle.setting.specs.Settings.{iOf}
 use Rattle.meter.specs.declared.Meter.{Meter}
-use Rattle.meter.specs.declared.Setting.{Setting}
-use Rattle.crossing.specs.Found.{margin, levelsAt}
-use Rattle.crossing.proofs.Bounds.{alive, Crossed, crossed, factor}
 use Rattle.meter.specs.declared.Report.{Report}
-use Rattle.meter.specs.Refusals.{unnamedCode, unnamedSetting, impossible, openRules, chunkRules, blockCallRules}
-use Rattle.meter.specs.Reports.{reportRules, noReport, reportAt}
-use Rattle.meter.specs.Calls.{zeroMeter, openCall, chunkCall, blockCall, reportCall}
-use Rattle.meter.proofs.Possible.{falling}
-use Rattle.meter.proofs.Outcome.{Levels, levels}
+use Rattle.meter.specs.Answered.{CrossingAt, Used, ReportAt, Answered, no-samples, no-signal, no-activity, level-below, level-above, levels}
+use Rattle.meter.specs.Calls.{Handed, fresh, zeroMeter, afterSamples, openCall, chunkCall, blockCall, reportCall}
+use Rattle.meter.specs.Opened.{Fresh, Zeros}
+use Rattle.meter.specs.Refusals.{unnamedCode, unnamedSetting, impossible, longChunk, tooMany, openRules, chunkRules, blockCallRules}
+use Rattle.meter.specs.Reports.{reportRules}
+use Rattle.meter.proofs.Outcome.{answered}
+use Rattle.meter.proofs.Possible.{Possible, possible, falling}
 
--- ---- a refused call hands back the meter it was given, and a refused report is all zeros
+-- ---- the number given is that of the first rule that applies, which is the lowest
+
+pub open-given : (c : Setting) → Given (openRules c) (openCall c .number) × Lowest (openRules c) (openCall c .number)
+unfolding openCall openRules rising
+open-given c = given-lowest (openRules c) refl
+
+pub chunk-given : (m : Meter) (xs : List ℤ) → Given (chunkRules m xs) (chunkCall m xs .number) × Lowest (chunkRules m xs) (chunkCall m xs .number)
+unfolding chunkCall chunkRules rising
+chunk-given m xs = given-lowest (chunkRules m xs) refl
+
+pub block-given : (m : Meter) (b : List ℕ) → Given (blockCallRules m b) (blockCall m b .number) × Lowest (blockCallRules m b) (blockCall m b .number)
+unfolding blockCall blockCallRules blockRules rising
+block-given m b = given-lowest (blockCallRules m b) refl
+
+pub report-given : (m : Meter) → Given (reportRules m) (reportCall m .number) × Lowest (reportRules m) (reportCall m .number)
+unfolding reportCall reportRules rising
+report-given m = given-lowest (reportRules m) refl
+
+
+-- ---- what is handed back
 
 refused : (r : ℕ) (a b : Meter) → 0 < r → cond (eqb r 0) a b ≡ b
 refused r a b h = simp (ne-eqb r 0 (λ e. omega arith))
 
-pub refused-open : (c : Setting) → 0 < openCall c .number → openCall c .meter ≡ zeroMeter
-unfolding openCall
-refused-open c h = refused _ _ _ h
+accepted : (r : ℕ) (a b : Meter) → r ≡ 0 → cond (eqb r 0) a b ≡ a
+accepted r a b z = ap (λ (n : ℕ). cond (eqb n 0) a b) z
 
+-- a refused call hands back the meter it was given
 pub refused-chunk : (m : Meter) (xs : List ℤ) → 0 < chunkCall m xs .number → chunkCall m xs .meter ≡ m
 unfolding chunkCall
 refused-chunk m xs h = refused _ _ _ h
@@ -49,105 +74,127 @@ pub report-meter : (m : Meter) → reportCall m .meter ≡ m
 unfolding reportCall
 report-meter m = refl
 
-pub refused-report : (m : Meter) → 0 < reportCall m .number → reportCall m .report ≡ noReport
-unfolding reportCall
-refused-report m h = simp (ne-eqb (firstOf (reportRules m)) 0 (λ e. omega arith))
+-- opening hands back the fresh meter; refused, the meter of all zeros
+pub opened : (c : Setting) → openCall c .number ≡ 0 → openCall c .meter ≡ fresh c
+unfolding openCall
+opened c z = accepted _ _ _ z
 
--- ---- the rules of each call rise in number, so the first that applies is the lowest
+pub fresh-fields : (c : Setting) → Fresh c (fresh c)
+unfolding fresh freshState words fifteen listFrom
+fresh-fields c = record { setting = refl; n = refl; s = refl; high = refl; low = refl; P = refl; Q = refl; a = refl; h = refl }
 
-pub open-rises : (code : ℕ) → rising 0 (openRules code) ≡ true
-unfolding rising openRules
-open-rises code = refl
+zero-fields : Zeros zeroMeter
+unfolding zeroMeter freshState words fifteen listFrom
+zero-fields = record { setting = refl; n = refl; s = refl; high = refl; low = refl; P = refl; Q = refl; a = refl; h = refl }
 
-pub chunk-rises : (m : Meter) (xs : List ℤ) → rising 0 (chunkRules m xs) ≡ true
-unfolding rising chunkRules
-chunk-rises m xs = refl
+pub refused-open : (c : Setting) → 0 < openCall c .number → Zeros (openCall c .meter)
+unfolding openCall
+refused-open c h = subst Zeros (sym (refused _ _ _ h)) zero-fields
 
-pub block-rises : (m : Meter) (b : List ℕ) → rising 0 (blockCallRules m b) ≡ true
-unfolding rising blockCallRules blockRules
-block-rises m b = refl
+-- a block is taken exactly when none of 2 and 4 to 11 applies, and then its samples are
+pub block-taken : (m : Meter) (b : List ℕ) → (blockCall m b .number ≡ 0) ↔ NoneApplies (blockCallRules m b)
+block-taken m b = block-given m b .0 .accepted
 
-pub report-rises : (m : Meter) → rising 0 (reportRules m) ≡ true
-unfolding rising reportRules
-report-rises m = refl
-
--- for any rules that rise: a number given is one whose condition holds, and no lower one of that call holds
-pub record Given (rules : List Rule) : Type 0 where
-  pub holds : 0 < firstOf rules → applies rules (firstOf rules) ≡ true
-  pub lowest-one : (k : ℕ) → k < firstOf rules → applies rules k ≡ true → ⊥
-  pub none-applies : firstOf rules ≡ 0 → (k : ℕ) → applies rules k ≡ true → ⊥
-
-pub given : (rules : List Rule) → rising 0 rules ≡ true → Given rules
-given rules s =
-    record {
-      holds = only-where rules;
-      lowest-one = λ k l a. omega (arith, lowest rules k s a .1);
-      none-applies = λ z k a. omega (arith, lowest rules k s a .0);
-    }
-
--- a block is taken exactly when none of 2 and 4 to 11 applies
-pub block-taken : (m : Meter) (b : List ℕ) → (blockCall m b .number ≡ 0) ↔ ((k : ℕ) → applies (blockCallRules m b) k ≡ false)
+pub block-samples : (m : Meter) (b : List ℕ) → NoneApplies (blockCallRules m b) → blockCall m b .meter ≡ afterSamples m (samples b)
 unfolding blockCall
-block-taken m b = (λ z k. off (applies (blockCallRules m b) k) (given _ (block-rises m b) .none-applies z k), λ f. zero-of (firstOf (blockCallRules m b)) (λ h. only-where _ h) f)
-  where
-    off : (t : Bool) → (t ≡ true → ⊥) → t ≡ false
-    off true f = absurd (f refl)
-    off false f = refl
+block-samples m b n = accepted _ _ _ (block-given m b .0 .accepted .1 n)
 
-    zero-of : (n : ℕ) → (0 < n → applies (blockCallRules m b) n ≡ true) → ((k : ℕ) → applies (blockCallRules m b) k ≡ false) → n ≡ 0
-    zero-of zero h f = refl
-    zero-of (suc n) h f = let z : true ≡ false = sym (h (omega arith)) ∙ f (suc n) in absurd (subst lib.Dec.T z tt)
+-- an empty chunk is accepted where 2 does not refuse the meter, and changes nothing
+pub empty-chunk : (m : Meter) → impossible m ≡ false → chunkCall m [] ≡ record { number = 0; meter = m }
+unfolding chunkCall chunkRules longChunk tooMany afterSamples stateAfter
+empty-chunk m ok =
+    let few : m .state .sums .n + 0 ≤ 2 ^ 48 = omega (arith, possible m ok .n-max) in
+    ap (λ (n : ℕ). record { number = n; meter = cond (eqb n 0) m m })
+    (sym (past 2 (impossible m) _ ok (past 3 (ltb 4096 0) _ refl (past 11 (tooMany m 0) _ (le-ltb _ _ few) none))))
 
 -- ---- the meter of all zeros gets 2 from every call
 
-zero-impossible : impossible zeroMeter ≡ true
-unfolding impossible unnamedSetting unnamedCode zeroMeter
-zero-impossible = simp zero-unnamed
+zeros-impossible : (m : Meter) → Zeros m → impossible m ≡ true
+unfolding impossible unnamedSetting unnamedCode
+zeros-impossible m z = simp (z .setting, zero-unnamed)
 
-pub zero-chunk : (xs : List ℤ) → 2 ≡ chunkCall zeroMeter xs .number
+pub zeros-chunk : (m : Meter) → Zeros m → (xs : List ℤ) → chunkCall m xs .number ≡ 2
 unfolding chunkCall chunkRules
-zero-chunk xs = here 2 (impossible zeroMeter) _ zero-impossible
+zeros-chunk m z xs = sym (here 2 (impossible m) _ (zeros-impossible m z))
 
-pub zero-block : (b : List ℕ) → 2 ≡ blockCall zeroMeter b .number
+pub zeros-block : (m : Meter) → Zeros m → (b : List ℕ) → blockCall m b .number ≡ 2
 unfolding blockCall blockCallRules
-zero-block b = here 2 (impossible zeroMeter) _ zero-impossible
+zeros-block m z b = sym (here 2 (impossible m) _ (zeros-impossible m z))
 
-pub zero-report : 2 ≡ reportCall zeroMeter .number
+pub zeros-report : (m : Meter) → Zeros m → reportCall m .number ≡ 2
 unfolding reportCall reportRules
-zero-report = here 2 (impossible zeroMeter) _ zero-impossible
+zeros-report m z = sym (here 2 (impossible m) _ (zeros-impossible m z))
 
--- ---- a report that gives levels
+-- ---- what a report's number tells
 
-module _ (m : Meter) (z : reportCall m .number ≡ 0) where
-  L : Levels m
-  L = levels m z
+-- a number other than 2 is 0 or one of 12 to 16
+pub level-or-refusal : {m : Meter} {k : ℕ} {r : Report} → Answered m k r → (k ≡ 0) ⊎ ((12 ≤ k) × (k ≤ 16))
+level-or-refusal (no-samples r z n) = inr (lit≤ tt, lit≤ tt)
+level-or-refusal (no-signal r z n s) = inr (lit≤ tt, lit≤ tt)
+level-or-refusal (no-activity r z n s a) = inr (lit≤ tt, lit≤ tt)
+level-or-refusal (level-below r z a n d) = inr (lit≤ tt, lit≤ tt)
+level-or-refusal (level-above r z a n d) = inr (lit≤ tt, lit≤ tt)
+level-or-refusal (levels r j n s u a) = inl refl
 
-  upper-is : reportCall m .report .levels .upper ≡ L .j
-  unfolding reportAt levelsAt
-  upper-is = ap (λ (r : Report). r .levels .upper) (L .report)
+-- 0 is given with levels, at the crossing that is used
+pub record Levels (m : Meter) (r : Report) : Type 0 where
+  pub n-pos : 0 < m .state .sums .n
+  pub sq-pos : 0 < number (m .state .sums .sq)
+  pub j : ℕ
+  pub used : Used m j
+  pub report : ReportAt m j r
 
-  count-exists : (i : ℕ) → i ≤ L .j → (1 ≤ getD (m .state .a) i 0) × (getD (m .state .a) i 0 ≤ 2 ^ 80)
-  count-exists i h =
-      let p = L .possible in (
-        le-trans (alive margin (pos (lev (number (m .state .sums .sq)))) (m .state .a) (L .j) (L .crosses)) (falling m p i (L .j) h (L .below)),
-        omega (arith, p .a-max i (lt-of-le-of-lt h (L .below)), p .n-max),
-      )
+pub with-levels : {m : Meter} {k : ℕ} {r : Report} → Answered m k r → k ≡ 0 → Levels m r
+with-levels (no-samples r z n) e = absurd (omega arith)
+with-levels (no-signal r z n s) e = absurd (omega arith)
+with-levels (no-activity r z n s a) e = absurd (omega arith)
+with-levels (level-below r z a n d) e = absurd (omega arith)
+with-levels (level-above r z a n d) e = absurd (omega arith)
+with-levels (levels r j n s u a) e = record { n-pos = n; sq-pos = s; j = j; used = u; report = a }
 
-  -- the numbers whose levels it takes, sq, n and each a_i up to the upper threshold, all have one
-  pub level-exists : (1 ≤ number (m .state .sums .sq)) × (number (m .state .sums .sq) ≤ 2 ^ 80) × (1 ≤ m .state .sums .n) × (m .state .sums .n ≤ 2 ^ 80)
-      × ((i : ℕ) → i ≤ reportCall m .report .levels .upper → (1 ≤ getD (m .state .a) i 0) × (getD (m .state .a) i 0 ≤ 2 ^ 80))
-  level-exists =
-      let p = L .possible in
-      (L .sq-pos, omega (arith, p .sq-max, p .n-max), L .n-pos, omega (arith, p .n-max), λ i h. count-exists i (subst (λ (j : ℕ). i ≤ j) upper-is h))
+-- 0, 15 and 16 are given only where something was measured
+some-measured : {m : Meter} {k : ℕ} {r : Report} → Answered m k r → (k ≡ 0) ⊎ (15 ≤ k) → (0 < m .state .sums .n) × (0 < number (m .state .sums .sq))
+some-measured (no-samples r z n) (inl e) = absurd (omega arith)
+some-measured (no-samples r z n) (inr e) = absurd (omega arith)
+some-measured (no-signal r z n s) (inl e) = absurd (omega arith)
+some-measured (no-signal r z n s) (inr e) = absurd (omega arith)
+some-measured (no-activity r z n s a) (inl e) = absurd (omega arith)
+some-measured (no-activity r z n s a) (inr e) = absurd (omega arith)
+some-measured (level-below r z a n d) e = (a .n, a .sq)
+some-measured (level-above r z a n d) e = (a .n, a .sq)
+some-measured (levels r j n s u a) e = (n, s)
 
-  cross : Crossed margin (lev (number (m .state .sums .sq))) (m .state .a) (L .j)
-  cross =
-      crossed margin (lev (number (m .state .sums .sq))) (m .state .a) (L .j) (L .crosses)
-      (λ h. falling m (L .possible) (L .j - 1) (L .j) (omega arith) (L .below)) (count-exists (L .j - 1) (omega arith) .1)
+-- the numbers whose levels a report takes, sq, n and each a_j above 0, all have one
+pub record LevelsExist (m : Meter) : Type 0 where
+  pub of-sq : levelOf (number (m .state .sums .sq)) ≡ some (pos (lev (number (m .state .sums .sq))))
+  pub of-n : levelOf (m .state .sums .n) ≡ some (pos (lev (m .state .sums .n)))
+  pub of-a : (j : ℕ) → j < 15 → 0 < getD (m .state .a) j 0 → levelOf (getD (m .state .a) j 0) ≡ some (pos (lev (getD (m .state .a) j 0)))
 
-  -- F is never above 0
-  pub factor-never-above : ltZ (pos 0) (reportCall m .report .levels .factor .0) ≡ false
-  unfolding reportAt levelsAt
-  factor-never-above =
-      ap (λ (r : Report). ltZ (pos 0) (r .levels .factor .0)) (L .report)
-      ∙ factor margin (number (m .state .sums .sq)) (m .state .sums .n) (m .state .a) (L .j) cross (L .possible .a-max (cross .i) (lt-of-le-of-lt (cross .reach) (L .below))) (level-exists .3)
+-- so a report with levels, and one refused with 15 or 16, never meets "no level"
+pub levels-exist : (m : Meter) → impossible m ≡ false → (reportCall m .number ≡ 0) ⊎ (15 ≤ reportCall m .number) → LevelsExist m
+levels-exist m ok e =
+    let p = possible m ok in
+    let w = some-measured (answered m ok) e in
+    record {
+      of-sq = level-exists _ (w .1) (omega (arith, p .sq-max, p .n-max));
+      of-n = level-exists _ (w .0) (omega (arith, p .n-max));
+      of-a = λ j l h. level-exists _ h (omega (arith, p .a-max j l, p .n-max));
+    }
+
+-- what is known of a crossing of a possible meter
+pub crossing-of : (m : Meter) → Possible m → (j : ℕ) → CrossingAt m j → Crossed margin (lev (number (m .state .sums .sq))) (m .state .a) j
+crossing-of m p j c =
+    crossed margin (lev (number (m .state .sums .sq))) (m .state .a) j (c .crosses)
+    (λ h. falling m p (j - 1) j (omega arith) (c .place))
+    (omega (arith, p .a-max (j - 1) (omega (arith, c .place)), p .n-max))
+
+-- F is never above 0
+pub factor-never-above : (m : Meter) → impossible m ≡ false → reportCall m .number ≡ 0 → ltZ (pos 0) (reportCall m .report .levels .factor .0) ≡ false
+factor-never-above m ok z =
+    let p = possible m ok in
+    let L = with-levels (answered m ok) z in
+    let c = crossing-of m p (L .j) (L .used .crossing) in
+    ap (ltZ (pos 0)) (L .report .F)
+    ∙ ap₂ (λ (y x : ℤ). ltZ (pos 0) (y -ℤ x)) (L .report .L) (L .report .A)
+    ∙ factor margin (number (m .state .sums .sq)) (m .state .sums .n) (m .state .a) (L .j) c
+    (p .a-max (c .i) (omega (arith, c .reach, L .used .crossing .place))) (omega (arith, p .n-max))

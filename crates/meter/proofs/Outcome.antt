@@ -1,114 +1,174 @@
--- What a report is where it gives levels, and where it gives none.
+-- What a report call hands back on a meter that refusal 2 lets pass, case by case in the order of testing; and that it is document 01's report:
+-- `answered`.
 use mathlib.Core.Bool.{Bool, true, false, cond, _&&_}
 use mathlib.Core.List.{List, [], _∷_}
-use mathlib.Core.Logic.{_⊎_, inl, inr}
 use mathlib.Core.Option.{Option, none, some}
 use mathlib.Core.Path.{_≡_, refl, sym, ap, _∙_, subst}
-use Prim.Native.Nat.{ℕ, zero, suc, _-_, _≤_, _<_}
+use Prim.Native.Nat.{ℕ, zero, suc, _<_}
 use native.Mathlib.Nat.{pos-of-ne-zero}
 use native.Mathlib.Omega.{arith}
-use borrow.Author.Tests.{eqb-false, lt-ltb, ltb-false}
-use lib.Dec.{T, eqb, lit≤}
+use borrow.Author.Tests.{eqb-true, eqb-false, ne-eqb, lt-ltb, ltb-false}
+use lib.Dec.{T, eqb}
 use lib.IntN.{ℤ, pos, negsuc}
 use lib.ListN.{getD}
 use lib.Signed.{ltZ}
-use Rattle.level.specs.Logarithm.{number, lev}
+use Rattle.level.specs.Logarithm.{number}
 use Rattle.refusal.specs.First.{firstOf}
-use Rattle.refusal.proofs.Laws.{cleared}
-use Rattle.meter.specs.declared.Meter.{Meter}
+use Rattle.refusal.proofs.Laws.{here, past, none as no-rule}
+use Rattle.sample.specs.Sample.{listFrom, fifteen, words}
+use Rattle.crossing.specs.declared.Levels.{Levels}
 use Rattle.crossing.specs.Levels.{excess}
 use Rattle.crossing.specs.Crossing.{isZero, isCrossing, crossing}
-use Rattle.crossing.specs.Found.{margin, crossingIn, firstExcess}
+use Rattle.crossing.specs.Found.{margin, levelsAt, noLevels, crossingIn, firstExcess}
 use Rattle.crossing.proofs.Searching.{found, not-found}
+use Rattle.meter.specs.declared.Meter.{Meter}
+use Rattle.meter.specs.declared.Report.{Report}
+use Rattle.meter.specs.Answered.{powerOf, CrossingAt, Used, ReportAt, AllZero, Active, Answered, no-samples, no-signal, no-activity, level-below, level-above, levels}
+use Rattle.meter.specs.Calls.{HandedReport, reportCall}
+use Rattle.meter.specs.Inner.{unreported, reportedWith}
 use Rattle.meter.specs.Refusals.{impossible}
 use Rattle.meter.specs.Reports.{isNone, crossingOf, firstOfMeter, noSamples, noSignal, noActivity, levelBelow, levelAbove, reportRules, noReport, reportAt, reportFor}
-use Rattle.meter.specs.Calls.{reportCall}
-use Rattle.meter.proofs.Possible.{Possible, possible}
 
--- the number given, by the six tests
-abbrev given : (i b12 b13 b14 b15 b16 : Bool) → ℕ
-given i b12 b13 b14 b15 b16 = firstOf ((2, i) ∷ (12, b12) ∷ (13, b13) ∷ (14, b14) ∷ (15, b15) ∷ (16, b16) ∷ [])
-
-answer : (i b12 b13 b14 b15 b16 : Bool) → i ≡ false
-    → (given i b12 b13 b14 b15 b16 ≡ 0) ⊎ ((12 ≤ given i b12 b13 b14 b15 b16) × (given i b12 b13 b14 b15 b16 ≤ 16))
-unfolding firstOf
-answer true b12 b13 b14 b15 b16 e = absurd (subst T e tt)
-answer false true b13 b14 b15 b16 e = inr (lit≤ tt, lit≤ tt)
-answer false false true b14 b15 b16 e = inr (lit≤ tt, lit≤ tt)
-answer false false false true b15 b16 e = inr (lit≤ tt, lit≤ tt)
-answer false false false false true b16 e = inr (lit≤ tt, lit≤ tt)
-answer false false false false false true e = inr (lit≤ tt, lit≤ tt)
-answer false false false false false false e = inl refl
-
--- a report that is not refused with 2 gives levels or one of 12 to 16
-pub level-or-refusal : (m : Meter) → impossible m ≡ false → (reportCall m .number ≡ 0) ⊎ ((12 ≤ reportCall m .number) × (reportCall m .number ≤ 16))
-unfolding reportCall reportRules
-level-or-refusal m i = answer (impossible m) (noSamples m) (noSignal m) (noActivity m) (levelBelow m) (levelAbove m) i
-
--- what holds of a meter whose report gives levels
-pub record Levels (m : Meter) : Type 0 where
-  pub possible : Possible m
-  pub n-pos : 0 < m .state .sums .n
-  pub sq-pos : 0 < number (m .state .sums .sq)
-  pub j : ℕ
-  pub below : j < 15
-  pub crosses : isCrossing margin (pos (lev (number (m .state .sums .sq)))) (m .state .a) j ≡ true
-  pub report : reportCall m .report ≡ reportAt m j
+-- a refused report
+pub no-report : (k : ℕ) (m : Meter) → 0 < k → k ≡ firstOf (reportRules m) → unreported k m ≡ reportCall m
+unfolding unreported reportCall
+no-report k m l e =
+    subst (λ (r : ℕ). unreported k m ≡ record { number = r; meter = m; report = cond (eqb r 0) (reportFor m (crossingOf m)) noReport }) e
+    (sym (simp (ne-eqb k 0 (λ z. let h : 0 < 0 = subst (λ (n : ℕ). 0 < n) z l in absurd (omega arith)))))
 
 -- with a_0 above 0 and d_0 neither below nor above 0, there is a crossing at 0
-pub signs : (d : ℤ) → ltZ d (pos 0) ≡ false → ltZ (pos 0) d ≡ false → isZero d ≡ true
+signs : (d : ℤ) → ltZ d (pos 0) ≡ false → ltZ (pos 0) d ≡ false → isZero d ≡ true
 signs (pos zero) p q = refl
 signs (pos (suc n)) p q = absurd (omega (arith, ltb-false 0 (suc n) q))
 signs (negsuc n) p q = absurd (subst T p tt)
 
-pub first-crosses : (M : ℕ) (S : ℤ) (a : List ℕ) → 0 < getD a 0 0 → isZero (excess M S a 0) ≡ true → isCrossing M S a 0 ≡ true
+first-crosses : (M : ℕ) (S : ℤ) (a : List ℕ) → 0 < getD a 0 0 → isZero (excess M S a 0) ≡ true → isCrossing M S a 0 ≡ true
 unfolding isCrossing
 first-crosses M S a p z = simp (lt-ltb 0 (getD a 0 0) p, z)
 
-positive : (n : ℕ) → eqb n 0 ≡ false → 0 < n
-positive n e = pos-of-ne-zero (eqb-false n 0 e)
+-- ---- the number and the report, where the tests before have passed
 
-module _ (m : Meter) (z : reportCall m .number ≡ 0) where
-  -- every rule of the report passed
-  passed : (impossible m ≡ false) × (noSamples m ≡ false) × (noSignal m ≡ false) × (noActivity m ≡ false) × (levelBelow m ≡ false) × (levelAbove m ≡ false)
-  unfolding reportCall reportRules
-  passed =
-      let c2 = cleared 1 (impossible m) _ (sym z) in
-      let c12 = cleared 11 (noSamples m) _ (c2 .1) in
-      let c13 = cleared 12 (noSignal m) _ (c12 .1) in
-      let c14 = cleared 13 (noActivity m) _ (c13 .1) in
-      let c15 = cleared 14 (levelBelow m) _ (c14 .1) in
-      let c16 = cleared 15 (levelAbove m) _ (c15 .1) in
-      (c2 .0, c12 .0, c13 .0, c14 .0, c15 .0, c16 .0)
+-- the tests before the search
+pub record Tested (m : Meter) : Type 0 where
+  pub passed : impossible m ≡ false
+  pub n-some : noSamples m ≡ false
+  pub sq-some : noSignal m ≡ false
+  pub a-some : noActivity m ≡ false
 
-  -- so a crossing was found
-  crossing-found : (o : Option ℕ) → crossingOf m ≡ o → (j : ℕ) × (crossingOf m ≡ some j)
-  unfolding levelBelow levelAbove noActivity crossingOf crossingIn crossing firstOfMeter firstExcess
-  crossing-found (some j) e = (j, e)
-  crossing-found none e =
-      let d = firstOfMeter m in
-      let below : ltZ d (pos 0) ≡ false = sym (ap (λ (o : Option ℕ). isNone o && ltZ d (pos 0)) e) ∙ passed .4 in
-      let above : ltZ (pos 0) d ≡ false = sym (ap (λ (o : Option ℕ). isNone o && ltZ (pos 0) d) e) ∙ passed .5 in
-      let yes = first-crosses margin (pos (lev (number (m .state .sums .sq)))) (m .state .a) (positive _ (passed .3)) (signs d below above) in
-      let no = not-found (isCrossing margin (pos (lev (number (m .state .sums .sq)))) (m .state .a)) 0 15 e 0 (omega arith) (omega arith) in
-      absurd (subst T (sym yes ∙ no) tt)
+module _ (m : Meter) (ok : impossible m ≡ false) where
+  pub at-12 : noSamples m ≡ true → unreported 12 m ≡ reportCall m
+  unfolding reportRules
+  at-12 e = no-report 12 m (omega arith) (past 2 (impossible m) _ ok (here 12 (noSamples m) _ e))
 
-  report-is : (j : ℕ) → crossingOf m ≡ some j → reportCall m .report ≡ reportAt m j
-  unfolding reportCall reportFor
-  report-is j e =
-      ap (λ (r : ℕ). cond (eqb r 0) (reportFor m (crossingOf m)) noReport) z ∙ ap (reportFor m) e
+  pub at-13 : noSamples m ≡ false → noSignal m ≡ true → unreported 13 m ≡ reportCall m
+  unfolding reportRules
+  at-13 n e = no-report 13 m (omega arith) (past 2 (impossible m) _ ok (past 12 (noSamples m) _ n (here 13 (noSignal m) _ e)))
 
-  pub levels : Levels m
-  unfolding noSamples noSignal crossingOf crossingIn crossing
-  levels =
-      let c = crossing-found (crossingOf m) refl in
-      let f = found (isCrossing margin (pos (lev (number (m .state .sums .sq)))) (m .state .a)) 0 15 (c .0) (c .1) in
+  pub at-14 : noSamples m ≡ false → noSignal m ≡ false → noActivity m ≡ true → unreported 14 m ≡ reportCall m
+  unfolding reportRules
+  at-14 n s e =
+      no-report 14 m (omega arith)
+      (past 2 (impossible m) _ ok (past 12 (noSamples m) _ n (past 13 (noSignal m) _ s (here 14 (noActivity m) _ e))))
+
+module _ (m : Meter) (t : Tested m) where
+  -- past the first four rules
+  four : (k : ℕ) → k ≡ firstOf ((15, levelBelow m) ∷ (16, levelAbove m) ∷ []) → k ≡ firstOf (reportRules m)
+  unfolding reportRules
+  four k e =
+      past 2 (impossible m) _ (t .passed)
+      (past 12 (noSamples m) _ (t .n-some) (past 13 (noSignal m) _ (t .sq-some) (past 14 (noActivity m) _ (t .a-some) e)))
+
+  -- 15 and 16 are tests of the crossing and of the sign of d_0
+  below-is : (o : Option ℕ) → crossingOf m ≡ o → levelBelow m ≡ isNone o && ltZ (firstOfMeter m) (pos 0)
+  unfolding levelBelow
+  below-is o e = ap (λ (o : Option ℕ). isNone o && ltZ (firstOfMeter m) (pos 0)) e
+
+  above-is : (o : Option ℕ) → crossingOf m ≡ o → levelAbove m ≡ isNone o && ltZ (pos 0) (firstOfMeter m)
+  unfolding levelAbove
+  above-is o e = ap (λ (o : Option ℕ). isNone o && ltZ (pos 0) (firstOfMeter m)) e
+
+  nowhere : crossingOf m ≡ none → (j : ℕ) → CrossingAt m j → ⊥
+  unfolding crossingOf crossingIn crossing
+  nowhere e j c =
+      absurd (subst T (sym (c .crosses) ∙ not-found (isCrossing margin (powerOf m) (m .state .a)) 0 15 e j (omega arith) (omega (arith, c .place))) tt)
+
+  a-above : 0 < getD (m .state .a) 0 0
+  unfolding noActivity
+  a-above = pos-of-ne-zero (eqb-false _ 0 (t .a-some))
+
+  above-zero : crossingOf m ≡ none → ltZ (firstOfMeter m) (pos 0) ≡ false → ltZ (pos 0) (firstOfMeter m) ≡ true
+  unfolding firstOfMeter firstExcess
+  above-zero e b = go (ltZ (pos 0) (firstOfMeter m)) refl
+    where
+      go : (b : Bool) → ltZ (pos 0) (firstOfMeter m) ≡ b → b ≡ true
+      go true p = refl
+      go false p = absurd (nowhere e 0 (record { place = omega arith; crosses = first-crosses margin (powerOf m) (m .state .a) a-above (signs (firstOfMeter m) b p) }))
+
+  pub at-15 : crossingOf m ≡ none → ltZ (firstOfMeter m) (pos 0) ≡ true → unreported 15 m ≡ reportCall m
+  at-15 e b = no-report 15 m (omega arith) (four 15 (here 15 (levelBelow m) _ (below-is none e ∙ b)))
+
+  pub at-16 : crossingOf m ≡ none → ltZ (firstOfMeter m) (pos 0) ≡ false → unreported 16 m ≡ reportCall m
+  at-16 e b =
+      no-report 16 m (omega arith) (four 16 (past 15 (levelBelow m) _ (below-is none e ∙ b) (here 16 (levelAbove m) _ (above-is none e ∙ above-zero e b))))
+
+  pub at-0 : (j : ℕ) → crossingOf m ≡ some j → reportedWith (levelsAt (m .state .sums .n) (number (m .state .sums .sq)) (m .state .a) j) m ≡ reportCall m
+  unfolding reportedWith reportCall reportFor reportAt
+  at-0 j e =
+      ap (λ (r : ℕ). record { number = r; meter = m; report = cond (eqb r 0) (reportAt m j) noReport })
+      (four 0 (past 15 (levelBelow m) _ (below-is (some j) e) (past 16 (levelAbove m) _ (above-is (some j) e) no-rule)))
+      ∙ ap (λ (o : Option ℕ). record { number = firstOf (reportRules m); meter = m; report = cond (eqb (firstOf (reportRules m)) 0) (reportFor m o) noReport }) (sym e)
+
+  used : (j : ℕ) → crossingOf m ≡ some j → Used m j
+  unfolding crossingOf crossingIn crossing
+  used j e =
+      let f = found (isCrossing margin (powerOf m) (m .state .a)) 0 15 j e in
       record {
-        possible = possible m (passed .0);
-        n-pos = positive _ (passed .1);
-        sq-pos = positive _ (passed .2);
-        j = c .0;
-        below = f .to;
-        crosses = f .holds;
-        report = report-is (c .0) (c .1);
+        crossing = record { place = f .to; crosses = f .holds };
+        none-lower = λ i l c. absurd (subst T (sym (c .crosses) ∙ f .none-lower i (omega arith) l) tt);
       }
+
+-- ---- document 01's report
+
+zero-report : AllZero noReport
+unfolding noReport noLevels words fifteen listFrom
+zero-report =
+    record { n = refl; s = refl; high = refl; low = refl; a = refl; L = refl; A = refl; C = refl; F = refl; lower = refl; upper = refl }
+
+at-crossing : (m : Meter) (j : ℕ) → ReportAt m j (reportAt m j)
+unfolding reportAt levelsAt
+at-crossing m j = record { n = refl; s = refl; sq = refl; a = refl; L = refl; A = refl; C = refl; F = refl; lower = refl; upper = refl }
+
+-- what is answered, read off what a report call hands back
+abbrev Reads : Meter → HandedReport → Type 0
+Reads m r = Answered m (r .number) (r .report)
+
+pub answered : (m : Meter) → impossible m ≡ false → Answered m (reportCall m .number) (reportCall m .report)
+unfolding unreported reportedWith noSamples noSignal noActivity firstOfMeter firstExcess reportAt
+answered m ok = by-n (noSamples m) refl
+  where
+    sq : ℕ
+    sq = number (m .state .sums .sq)
+
+    above : (n : ℕ) → eqb n 0 ≡ false → 0 < n
+    above n e = pos-of-ne-zero (eqb-false n 0 e)
+
+    by-sign : (t : Tested m) → Active m → crossingOf m ≡ none → (b : Bool) → ltZ (firstOfMeter m) (pos 0) ≡ b → Reads m (reportCall m)
+    by-sign t a e true b = subst (Reads m) (at-15 m t e b) (level-below noReport zero-report a (nowhere m t e) b)
+    by-sign t a e false b = subst (Reads m) (at-16 m t e b) (level-above noReport zero-report a (nowhere m t e) (above-zero m t e b))
+
+    by-crossing : (t : Tested m) → Active m → (o : Option ℕ) → crossingOf m ≡ o → Reads m (reportCall m)
+    by-crossing t a none e = by-sign t a e (ltZ (firstOfMeter m) (pos 0)) refl
+    by-crossing t a (some j) e = subst (Reads m) (at-0 m t j e) (levels (reportAt m j) j (a .n) (a .sq) (used m t j e) (at-crossing m j))
+
+    by-a : noSamples m ≡ false → noSignal m ≡ false → (b : Bool) → noActivity m ≡ b → Reads m (reportCall m)
+    by-a n s true e = subst (Reads m) (at-14 m ok n s e) (no-activity noReport zero-report (above _ n) (above _ s) (eqb-true _ 0 e))
+    by-a n s false e =
+        by-crossing (record { passed = ok; n-some = n; sq-some = s; a-some = e }) (record { n = above _ n; sq = above _ s; a = above _ e }) (crossingOf m) refl
+
+    by-sq : noSamples m ≡ false → (b : Bool) → noSignal m ≡ b → Reads m (reportCall m)
+    by-sq n true e = subst (Reads m) (at-13 m ok n e) (no-signal noReport zero-report (above _ n) (eqb-true _ 0 e))
+    by-sq n false e = by-a n e (noActivity m) refl
+
+    by-n : (b : Bool) → noSamples m ≡ b → Reads m (reportCall m)
+    by-n true e = subst (Reads m) (at-12 m ok e) (no-samples noReport zero-report (eqb-true _ 0 e))
+    by-n false e = by-sq e (noSignal m) refl

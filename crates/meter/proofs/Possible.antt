@@ -10,7 +10,7 @@ use lib.ListN.{getD}
 use Rattle.level.specs.Logarithm.{number}
 use Rattle.rate.specs.Rates.{isNamed}
 use Rattle.meter.specs.declared.Meter.{Meter}
-use Rattle.meter.specs.Settings.{iOf}
+use Rattle.setting.specs.Settings.{iOf}
 use Rattle.meter.proofs.Below.{none-below, each-below, neither}
 use Rattle.meter.specs.Refusals.{unnamedCode, unnamedSetting, manySamples, largeSum, largeSquares, largeEnvelope, longHangover, largeCount, risingCounts, fallingHangovers, impossible}
 

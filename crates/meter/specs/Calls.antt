@@ -9,9 +9,9 @@ use Rattle.block.specs.Block.{samples as samplesIn}
 use Rattle.refusal.specs.Number.{numberGiven}
 use Rattle.meter.specs.declared.Fed.{Fed}
 use Rattle.meter.specs.declared.Meter.{Meter}
-use Rattle.meter.specs.declared.Setting.{Setting}
+use Rattle.setting.specs.declared.Setting.{Setting}
 use Rattle.sample.specs.Sample.{freshState, samples}
-use Rattle.meter.specs.Settings.{kOf, iOf}
+use Rattle.setting.specs.Settings.{kOf, iOf}
 use Rattle.meter.specs.declared.Report.{Report}
 use Rattle.meter.specs.declared.Reported.{Reported}
 use Rattle.meter.specs.Refusals.{openRules, chunkRules, blockCallRules}
@@ -52,7 +52,7 @@ abbrev pub handed : ℕ → Meter → Meter → Handed
 handed r accepted refused = record { number = r; meter = cond (eqb r 0) accepted refused }
 
 unfoldable pub openCall : Setting → Handed
-openCall c = handed (firstOf (openRules (c .code))) (fresh c) zeroMeter
+openCall c = handed (firstOf (openRules c)) (fresh c) zeroMeter
 
 unfoldable pub chunkCall : Meter → List ℤ → Handed
 chunkCall m xs = handed (firstOf (chunkRules m xs)) (afterSamples m xs) m

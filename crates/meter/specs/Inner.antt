@@ -17,8 +17,8 @@ use Rattle.meter.specs.declared.Meter.{Meter}
 use Rattle.meter.specs.Refusals.{someBelow, impossible, tooMany}
 use Rattle.meter.specs.Calls.{Handed, HandedReport, handed, afterSamples}
 use Rattle.meter.specs.Reports.{samplesOf, noReport}
-use Rattle.meter.specs.Settings.{kOf, iOf}
-use Rattle.meter.specs.declared.Setting.{Setting}
+use Rattle.setting.specs.Settings.{kOf, iOf}
+use Rattle.setting.specs.declared.Setting.{Setting}
 use Rattle.refusal.specs.First.{firstOf}
 use Rattle.sample.specs.Sample.{freshState}
 

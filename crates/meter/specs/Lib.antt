@@ -1,5 +1,6 @@
+pub mod Answered
 pub mod Calls
 pub mod Inner
+pub mod Opened
 pub mod Refusals
 pub mod Reports
-pub mod Settings

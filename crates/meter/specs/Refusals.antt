@@ -11,7 +11,8 @@ use Rattle.refusal.specs.First.{Rule}
 use Rattle.block.specs.Block.{count, before}
 use Rattle.block.specs.Refusals.{blockRules}
 use Rattle.meter.specs.declared.Meter.{Meter}
-use Rattle.meter.specs.Settings.{iOf}
+use Rattle.setting.specs.declared.Setting.{Setting}
+use Rattle.setting.specs.Settings.{iOf}
 
 -- whether f holds at some j below k
 unfoldable pub someBelow : ℕ → (ℕ → Bool) → Bool
@@ -19,12 +20,12 @@ someBelow zero f = false
 someBelow (suc k) f = someBelow k f || f k
 
 -- 1: a code that names no rate
-unfoldable pub unnamedCode : ℕ → Bool
-unnamedCode code = not (isNamed code)
+unfoldable pub unnamedCode : Setting → Bool
+unnamedCode c = not (isNamed (c .code))
 
 -- 2, condition by condition: the rate code names no rate
 unfoldable pub unnamedSetting : Meter → Bool
-unnamedSetting m = unnamedCode (m .setting .code)
+unnamedSetting m = unnamedCode (m .setting)
 
 -- n > 2^48
 unfoldable pub manySamples : Meter → Bool
@@ -83,8 +84,8 @@ wrongPlace m b = not (eqb (before b) (m .state .sums .n))
 unfoldable pub tooMany : Meter → ℕ → Bool
 tooMany m new = ltb (2 ^ 48) (m .state .sums .n + new)
 
-unfoldable pub openRules : ℕ → List Rule
-openRules code = (1, unnamedCode code) ∷ []
+unfoldable pub openRules : Setting → List Rule
+openRules c = (1, unnamedCode c) ∷ []
 
 unfoldable pub chunkRules : Meter → List ℤ → List Rule
 chunkRules m xs = (2, impossible m) ∷ (3, longChunk xs) ∷ (11, tooMany m (length xs)) ∷ []

@@ -10,11 +10,7 @@ use level::Samples;
 use level::Squares;
 use refusal::Answer;
 use sample::State;
-
-// What is chosen when a meter is opened.
-pub struct Setting {
-    pub code: u32,
-}
+use setting::Setting;
 
 // A meter: its setting, and what samples change.
 pub struct Meter {

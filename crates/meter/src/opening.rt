@@ -4,7 +4,7 @@ ghost use Rattle.meter.specs.Calls.{handedBy, openCall};
 ghost use Rattle.meter.specs.Inner.{freshAt};
 use crate::Fed;
 use crate::Meter;
-use crate::Setting;
+use setting::Setting;
 use level::Squares;
 use rate::Named;
 use rate::Rate;

@@ -1,8 +1,10 @@
 // Printing on standard output: a line piece by piece, a meter, and what a call gave.
 use crossing::Levels;
+use level::Samples;
 use libc::STDOUT_FILENO;
 use meter::Fed;
 use meter::Meter;
+use meter::Report;
 use meter::Reported;
 use refusal::Answer;
 
@@ -71,22 +73,39 @@ pub fn given(name: &[u8], fed: Fed) {
     end_of_line();
 }
 
-// A line with `report`, the number and, where there is a report, L, A, C, F, lower and upper.
+// A line with `report`, the number and, where there is a report, its n, s, sq high, sq low, the a_j, L, A,
+// C, F, lower and upper.
 pub fn report(reported: Reported) {
     let answer = reported.answer;
     words(b"report");
     spaced(refusal::given(answer) as u64);
     match answer {
-        Answer::Accepted => crossed(reported.report.levels),
+        Answer::Accepted => measured(reported.report),
         Answer::Refused(_) => {}
     }
     end_of_line();
 }
 
-fn crossed(found: Levels) {
+fn measured(report: Report) {
+    let found = report.levels;
+    let a = report.a;
+    spaced(report.n.0);
+    spaced_signed(report.s);
+    spaced(report.sq.high);
+    spaced(report.sq.low);
+    counts(a);
     levels(found);
     spaced(found.lower as u64);
     spaced(found.upper as u64);
+}
+
+// Activity counts, each after a space.
+fn counts(a: [Samples; 15]) {
+    let mut j = 0;
+    while j < 15 {
+        spaced(a[j].0);
+        j += 1;
+    }
 }
 
 // L, A, C and F, each after a space.

@@ -1,16 +1,18 @@
--- What is given, rule by rule. `here`, `past` and `none` follow a call through its tests; `cleared` takes an accepted call apart.
+-- What is given: `given` for any rules none of which is numbered 0, and `lowest` where their numbers rise. `here`, `past` and `none` follow a call
+-- through its tests.
 use mathlib.Core.Bool.{Bool, true, false, cond, _&&_, _||_, and-false}
 use mathlib.Core.List.{List, [], _∷_, _++_}
 use mathlib.Core.Path.{_≡_, refl, sym, ap, subst, _∙_}
 use Prim.Native.Nat.{ℕ, suc, _≤_, _<_}
 use native.Mathlib.Nat.{le-of-eq, le-of-lt}
 use native.Mathlib.Omega.{arith}
-use borrow.Author.Tests.{eq-eqb, eqb-true, ltb-true}
+use borrow.Author.Tests.{eqb-true, ltb-true, lt-ltb}
 use lib.Dec.{T, eqb, ltb, lit<}
+use lib.ListN.{getD}
 use Rattle.refusal.specs.declared.Refusal.{Refusal}
 use Rattle.refusal.specs.declared.Refusal.the-variants.{UnnamedRate, ImpossibleMeter, LongChunk, BlockLength, BlockCheck, BlockKind, BlockRate, BlockCount, BlockUnused, BlockPlace, TooManySamples, NoSamples, NoSignal, NoActivity, NoCrossingBelow, NoCrossingAbove}
 use Rattle.refusal.specs.Number.{numberOf}
-use Rattle.refusal.specs.First.{Rule, firstOf, applies, rising}
+use Rattle.refusal.specs.First.{Rule, firstOf, NoneApplies, applies, numbered, rising, Decides, Given, Lowest}
 
 pub here : (k : ℕ) (b : Bool) (rest : List Rule) → b ≡ true → k ≡ firstOf ((k, b) ∷ rest)
 unfolding firstOf
@@ -24,51 +26,43 @@ pub none : 0 ≡ firstOf []
 unfolding firstOf
 none = refl
 
-pub cleared : (k : ℕ) (b : Bool) (rest : List Rule) → 0 ≡ firstOf ((suc k, b) ∷ rest) → (b ≡ false) × (0 ≡ firstOf rest)
-unfolding firstOf
-cleared k true rest h = absurd (omega arith)
-cleared k false rest h = (refl, h)
-
--- every refusal has a number above 0
-pub positive : (why : Refusal) → 0 < numberOf why
-positive why = lit< (above why)
-  where
-    above : (why : Refusal) → T (ltb 0 (numberOf why))
-    above UnnamedRate = tt
-    above ImpossibleMeter = tt
-    above LongChunk = tt
-    above BlockLength = tt
-    above BlockCheck = tt
-    above BlockKind = tt
-    above BlockRate = tt
-    above BlockCount = tt
-    above BlockUnused = tt
-    above BlockPlace = tt
-    above TooManySamples = tt
-    above NoSamples = tt
-    above NoSignal = tt
-    above NoActivity = tt
-    above NoCrossingBelow = tt
-    above NoCrossingAbove = tt
-
--- ---- a number is given only where its condition holds, and where the numbers rise along the list it is the lowest that applies
-
-pub only-where : (rules : List Rule) → 0 < firstOf rules → applies rules (firstOf rules) ≡ true
-unfolding firstOf applies
-only-where [] h = absurd (omega arith)
-only-where (r ∷ rest) h = go (r .1) h (λ k. only-where rest k)
-  where
-    go : (b : Bool) → 0 < cond b (r .0) (firstOf rest) → (0 < firstOf rest → applies rest (firstOf rest) ≡ true)
-        → (eqb (r .0) (cond b (r .0) (firstOf rest)) && b) || applies rest (cond b (r .0) (firstOf rest)) ≡ true
-    go true k f = simp (eq-eqb (r .0) (r .0) refl)
-    go false k f = simp (and-false, f k)
-
 -- both of two tests that hold together
 pub both : (x y : Bool) → x && y ≡ true → (x ≡ true) × (y ≡ true)
 both true y h = (refl, h)
 both false y h = absurd (subst T (sym h) tt)
 
--- rules whose numbers rise from above n apply only above n
+-- ---- any rules none of which is numbered 0
+
+pub given : (rules : List Rule) → numbered rules ≡ true → Given rules (firstOf rules)
+unfolding firstOf NoneApplies numbered
+given [] n = record { refused = λ h. absurd (omega arith); accepted = (λ z. tt, λ u. refl) }
+given ((k, true) ∷ rest) n =
+    record {
+      refused = λ h. record { before = []; after = rest; parts = refl; none-before = tt };
+      accepted = (λ z. absurd (omega (arith, ltb-true 0 k (both (ltb 0 k) (numbered rest) n .0))), λ p. absurd (subst T (p .0) tt));
+    }
+given ((k, false) ∷ rest) n =
+    let g = given rest (both (ltb 0 k) (numbered rest) n .1) in
+    record {
+      refused = λ h. let d = g .refused h in record {
+        before = (k, false) ∷ d .before;
+        after = d .after;
+        parts = ap (λ (l : List Rule). (k, false) ∷ l) (d .parts);
+        none-before = (refl, d .none-before);
+      };
+      accepted = (λ z. (refl, g .accepted .0 z), λ p. g .accepted .1 (p .1));
+    }
+
+-- ---- rules whose numbers rise
+
+pub rising-numbered : (n : ℕ) (rules : List Rule) → rising n rules ≡ true → numbered rules ≡ true
+unfolding rising numbered
+rising-numbered n [] s = refl
+rising-numbered n (r ∷ rest) s =
+    let p = both (ltb n (r .0)) (rising (r .0) rest) s in
+    simp (lt-ltb 0 (r .0) (omega (arith, ltb-true n (r .0) (p .0))), rising-numbered (r .0) rest (p .1))
+
+-- those from above n apply only above n
 above-start : (n k : ℕ) (rules : List Rule) → rising n rules ≡ true → applies rules k ≡ true → n < k
 unfolding rising applies
 above-start n k [] r a = absurd (subst T (sym a) tt)
@@ -82,10 +76,11 @@ above-start n k (r ∷ rest) s a = go (eqb (r .0) k) refl (r .1) a (λ b. above-
     go true e false h f = omega (arith, f h, ltb-true n (r .0) (p .0))
     go false e b h f = omega (arith, f h, ltb-true n (r .0) (p .0))
 
-lowest-from : (n k : ℕ) (rules : List Rule) → rising n rules ≡ true → applies rules k ≡ true → (n < firstOf rules) × (firstOf rules ≤ k)
+-- so the first that applies is the lowest
+pub lowest : (n : ℕ) (rules : List Rule) → rising n rules ≡ true → Lowest rules (firstOf rules)
 unfolding rising applies firstOf
-lowest-from n k [] s a = absurd (subst T (sym a) tt)
-lowest-from n k (r ∷ rest) s a = go (r .1) refl a (λ b. lowest-from (r .0) k rest (p .1) b)
+lowest n [] s k a = absurd (subst T (sym a) tt)
+lowest n (r ∷ rest) s k a = go (r .1) a (λ h. lowest (r .0) rest (p .1) k h)
   where
     p : (ltb n (r .0) ≡ true) × (rising (r .0) rest ≡ true)
     p = both _ _ s
@@ -94,15 +89,44 @@ lowest-from n k (r ∷ rest) s a = go (r .1) refl a (λ b. lowest-from (r .0) k 
     first true b e h = le-of-eq (eqb-true (r .0) k e)
     first false b e h = le-of-lt (above-start (r .0) k rest (p .1) h)
 
-    go : (b : Bool) → r .1 ≡ b → (eqb (r .0) k && b) || applies rest k ≡ true → (applies rest k ≡ true → (r .0 < firstOf rest) × (firstOf rest ≤ k))
-        → (n < cond b (r .0) (firstOf rest)) × (cond b (r .0) (firstOf rest) ≤ k)
-    go true e h f = (ltb-true n (r .0) (p .0), first (eqb (r .0) k) true refl h)
-    go false e h f =
-        let q = f (sym (ap (λ (x : Bool). x || applies rest k) (and-false (eqb (r .0) k))) ∙ h) in
-        (omega (arith, ltb-true n (r .0) (p .0), q .0), q .1)
+    go : (b : Bool) → (eqb (r .0) k && b) || applies rest k ≡ true → (applies rest k ≡ true → firstOf rest ≤ k) → cond b (r .0) (firstOf rest) ≤ k
+    go true h f = first (eqb (r .0) k) true refl h
+    go false h f = f (sym (ap (λ (x : Bool). x || applies rest k) (and-false (eqb (r .0) k))) ∙ h)
 
-pub lowest : (rules : List Rule) (k : ℕ) → rising 0 rules ≡ true → applies rules k ≡ true → (0 < firstOf rules) × (firstOf rules ≤ k)
-lowest rules k s a = lowest-from 0 k rules s a
+pub given-lowest : (rules : List Rule) → rising 0 rules ≡ true → Given rules (firstOf rules) × Lowest rules (firstOf rules)
+given-lowest rules s = (given rules (rising-numbered 0 rules s), lowest 0 rules s)
+
+-- ---- the numbers of the refusals
+
+refusals : List Refusal
+refusals = UnnamedRate ∷ ImpossibleMeter ∷ LongChunk ∷ BlockLength ∷ BlockCheck ∷ BlockKind ∷ BlockRate ∷ BlockCount ∷ BlockUnused ∷ BlockPlace ∷ TooManySamples ∷ NoSamples ∷ NoSignal ∷ NoActivity ∷ NoCrossingBelow ∷ NoCrossingAbove ∷ []
+
+-- each stands in the list where its number says, counted from 1
+listed : (why : Refusal) → (getD (UnnamedRate ∷ refusals) (numberOf why) UnnamedRate ≡ why) × T (ltb 0 (numberOf why))
+unfolding refusals
+listed UnnamedRate = (refl, tt)
+listed ImpossibleMeter = (refl, tt)
+listed LongChunk = (refl, tt)
+listed BlockLength = (refl, tt)
+listed BlockCheck = (refl, tt)
+listed BlockKind = (refl, tt)
+listed BlockRate = (refl, tt)
+listed BlockCount = (refl, tt)
+listed BlockUnused = (refl, tt)
+listed BlockPlace = (refl, tt)
+listed TooManySamples = (refl, tt)
+listed NoSamples = (refl, tt)
+listed NoSignal = (refl, tt)
+listed NoActivity = (refl, tt)
+listed NoCrossingBelow = (refl, tt)
+listed NoCrossingAbove = (refl, tt)
+
+-- every refusal has a number above 0, and no two have the same
+pub positive : (why : Refusal) → 0 < numberOf why
+positive why = lit< (listed why .1)
+
+pub different : (x y : Refusal) → numberOf x ≡ numberOf y → x ≡ y
+different x y e = sym (listed x .0) ∙ ap (λ (k : ℕ). getD (UnnamedRate ∷ refusals) k UnnamedRate) e ∙ listed y .0
 
 -- ---- two lists in one: the first decides where one of its rules applies, else the second
 

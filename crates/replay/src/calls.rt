@@ -5,7 +5,7 @@ use input::Half;
 use level::Squares;
 use meter::Fed;
 use meter::Meter;
-use meter::Setting;
+use setting::Setting;
 use sample::State;
 use sample::Sums;
 

@@ -5,7 +5,7 @@ ghost use lib.ListN.{length};
 use crossing::Levels;
 use meter::Fed;
 use meter::Meter;
-use meter::Setting;
+use setting::Setting;
 use refusal::Answer;
 use sample::State;
 

@@ -3,7 +3,7 @@ use borrow.Author.Tests.{not-true, not-false}
 use mathlib.Core.Bool.{not}
 use mathlib.Core.Path.{sym, ap, _∙_}
 use Rattle.refusal.proofs.Laws.{here, past}
-use Rattle.block.specs.Refusals.{hostCheck}
+use Rattle.block.specs.Refusals.{hostRules, hostCheck}
 use borrow.Author.Needs.{needs}
 use Rattle.block.proofs.hoggetwhirl_check_block.Statement.{statement}
 use Rattle.block.proofs.hoggetwhirl_check_block.Tie as tie
@@ -15,7 +15,7 @@ number-requires : tie.Need-number-requires
 number-requires c κs = search needs
 
 returns : tie.Need-returns
-unfolding hostCheck
+unfolding hostCheck hostRules
 returns c = c .number .ensures ∙ here _ _ _ (ap not (sym (c .before .before .is-named .ensures) ∙ not-true _ (c .before .if1 .taken)))
 
 refused-requires : tie.Need-refused-requires
@@ -25,7 +25,7 @@ given-requires : tie.Need-given-requires
 given-requires c κs = search needs
 
 returns-2 : tie.Need-returns-2
-unfolding hostCheck
+unfolding hostCheck hostRules
 returns-2 c =
     let r = c .before in
     let n = r .before .before in

@@ -5,7 +5,7 @@ use native.Mathlib.Omega.{arith}
 use Rattle.refusal.proofs.Laws.{here}
 use Rattle.meter.specs.Refusals.{impossible}
 use Rattle.meter.specs.Reports.{reportRules}
-use Rattle.meter.proofs.Finding.{no-report}
+use Rattle.meter.proofs.Outcome.{no-report}
 use Rattle.meter.proofs.Handing.{usable-as, unusable-as}
 use Rattle.meter.proofs.Meter.report.Statement.{statement}
 use Rattle.meter.proofs.Meter.report.Tie as tie

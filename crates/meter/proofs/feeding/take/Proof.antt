@@ -11,7 +11,7 @@ use Rattle.meter.proofs.Possible.{Possible, possible}
 use Rattle.meter.specs.Calls.{handedBy, afterSamples}
 use Rattle.meter.specs.Inner.{takenBy, refusedWith}
 use Rattle.meter.specs.Refusals.{tooMany}
-use Rattle.meter.specs.Settings.{kOf}
+use Rattle.setting.specs.Settings.{kOf}
 use Rattle.meter.specs.declared.Meter.{Meter}
 use Rattle.rate.proofs.Laws.{row-keeps}
 use Rattle.refusal.proofs.Laws.{here, past, none}

@@ -13,7 +13,7 @@ use Rattle.rate.proofs.Laws.{named-as, named-nothing, is-named, is-not-named, r
 use Rattle.meter.specs.declared.Meter.{Meter}
 use Rattle.meter.specs.Inner.{usableRate, largeSums, wrongCounters}
 use Rattle.meter.specs.Refusals.{someBelow, unnamedCode, unnamedSetting, manySamples, largeSum, largeSquares, largeEnvelope, longHangover, largeCount, risingCounts, fallingHangovers, impossible}
-use Rattle.meter.specs.Settings.{iOf}
+use Rattle.setting.specs.Settings.{iOf}
 use Rattle.meter.proofs.Below.{same-below}
 use Rattle.meter.proofs.Chains.{regroup}
 use Rattle.meter.proofs.usable.rate.Statement.{statement}

@@ -1,0 +1,50 @@
+-- The whole claim: `claim`. Each clause is a theorem of its own, of the meter's crate or of this one.
+use mathlib.Core.Bool.{true}
+use mathlib.Core.Path.{_≡_, sym, ap, _∙_, subst}
+use lib.IntN.{ℤ}
+use Rattle.refusal.specs.First.{NoneApplies}
+use Rattle.rate.proofs.Laws.{zero-unnamed}
+use Rattle.setting.specs.declared.Setting.{Setting}
+use Rattle.block.proofs.Laws.{host-given}
+use Rattle.meter.specs.declared.Meter.{Meter}
+use Rattle.meter.specs.Opened.{Fresh, Zeros}
+use Rattle.meter.specs.Reports.{reportRules}
+use Rattle.meter.proofs.Laws.{open-given, chunk-given, block-given, report-given, refused-chunk, refused-block, report-meter, refused-open, zeros-chunk, zeros-block, zeros-report, opened, fresh-fields, factor-never-above, block-taken, block-samples, empty-chunk}
+use Rattle.meter.proofs.Outcome.{answered}
+use Rattle.exact.specs.Demands.{Demand1, Demand2, Claim}
+use Rattle.exact.proofs.Demand3.{demand3}
+use Rattle.exact.proofs.Lost.{nothing-lost, measured}
+
+demand1 : Demand1
+demand1 =
+    record {
+      nothing-lost = nothing-lost;
+      open-number = open-given;
+      chunk-number = chunk-given;
+      block-number = block-given;
+      report-number = report-given;
+      host-number = host-given;
+      chunk-refused = refused-chunk;
+      block-refused = refused-block;
+      report-hands-back = report-meter;
+      open-refused = refused-open;
+      zeros-chunk = zeros-chunk;
+      zeros-block = zeros-block;
+      zeros-report = zeros-report;
+    }
+
+demand2 : Demand2
+unfolding NoneApplies reportRules
+demand2 =
+    record {
+      opened = λ c z. subst (Fresh c) (sym (opened c z)) (fresh-fields c);
+      measured = measured;
+      reported = answered;
+      factor = λ m z. factor-never-above m (report-given m .0 .accepted .0 z .0) z;
+      block-taken = block-taken;
+      block-samples = λ m b z. block-samples m b (block-taken m b .0 z);
+      empty-chunk = empty-chunk;
+    }
+
+pub claim : Claim
+claim = record { demand1 = demand1; demand2 = demand2; demand3 = demand3 }

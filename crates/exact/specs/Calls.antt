@@ -1,0 +1,27 @@
+-- Calls: document 01, "One sample". What a call is given beside the meter, what its types say of that, and the samples that it brings.
+use mathlib.Core.List.{List, [], _∷_}
+use Prim.Native.Nat.{ℕ}
+use lib.IntN.{ℤ}
+use mir.Syntax.{w16}
+use mir.Val.{SFits}
+use Rattle.block.specs.Block.{samples}
+
+-- a call's arguments other than the meter
+pub data Call : Type 0 where
+  chunk : List ℤ → Call
+  block : List ℕ → Call
+
+-- the samples of each chunk are signed 16-bit numbers, as their type says
+unfoldable pub AllSamples : List ℤ → Type 0
+AllSamples [] = Unit {0}
+AllSamples (x ∷ xs) = SFits w16 x × AllSamples xs
+
+unfoldable pub Typed : List Call → Type 0
+Typed [] = Unit {0}
+Typed (chunk xs ∷ calls) = AllSamples xs × Typed calls
+Typed (block b ∷ calls) = Typed calls
+
+-- the samples that a call brings
+unfoldable pub samplesOf : Call → List ℤ
+samplesOf (chunk xs) = xs
+samplesOf (block b) = samples b

@@ -1,0 +1,6 @@
+// What is chosen when a meter is opened. The meter keeps it, and the exact machine E is fed from it.
+
+pub struct Setting {
+    // The rate code.
+    pub code: u32,
+}
