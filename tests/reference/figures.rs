@@ -87,39 +87,30 @@ fn handed_in(n: u64, sq: u128, a: &[u64]) -> Meter {
 
 /// The rows of reports (document 01, "Worked figures").
 fn reports(tally: &mut Tally) {
-    let found = handed_in(16384, 1 << 30, &[4096; 8]).report();
-    let report = Report {
-        L: 65536,
-        A: 73728,
-        C: 52093,
-        F: -8192,
-        lower: 6,
-        upper: 7,
-    };
-    tally.equal("a_7 4096", found, Ok(report));
-
-    let a = [4096, 4096, 4096, 4096, 4096, 4096, 4096, 2048];
-    let found = handed_in(16384, 1 << 30, &a).report();
-    let report = Report {
-        L: 65536,
-        A: 76669,
-        C: 55034,
-        F: -11133,
-        lower: 6,
-        upper: 7,
-    };
-    tally.equal("a_7 2048", found, Ok(report));
-
-    let found = handed_in(32768, 1275068, &[32768]).report();
-    let report = Report {
-        L: 21635,
-        A: 21635,
-        C: 0,
-        F: 0,
-        lower: 0,
-        upper: 0,
-    };
-    tally.equal("d_0 zero", found, Ok(report));
+    let full = handed_in(16384, 1 << 30, &[4096; 8]);
+    let mut half = full.clone();
+    half.a[7] = 2048;
+    let zero = handed_in(32768, 1275068, &[32768]);
+    let rows = [
+        ("a_7 4096", full, [65536, 73728, 52093, -8192], 6, 7),
+        ("a_7 2048", half, [65536, 76669, 55034, -11133], 6, 7),
+        ("d_0 zero", zero, [21635, 21635, 0, 0], 0, 0),
+    ];
+    for (name, meter, [L, A, C, F], lower, upper) in rows {
+        let report = Report {
+            n: meter.n,
+            s: meter.s,
+            sq: meter.sq,
+            a: meter.a,
+            L,
+            A,
+            C,
+            F,
+            lower,
+            upper,
+        };
+        tally.equal(name, meter.report(), Ok(report));
+    }
 
     let found = handed_in(32768, 1 << 20, &[32768]).report();
     tally.equal("d_0 negative", found, Err(15));

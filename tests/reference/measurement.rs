@@ -22,6 +22,16 @@ pub struct Measurement {
     pub meter: Meter,
 }
 
+/// Whether a report's n, s, sq and counts are those of a meter; a refused one has none.
+fn totals_of(answer: &Result<Report, u32>, meter: &Meter) -> bool {
+    match answer {
+        Ok(Report { n, s, sq, a, .. }) => {
+            (n, s, sq, a) == (&meter.n, &meter.s, &meter.sq, &meter.a)
+        }
+        Err(_) => true,
+    }
+}
+
 /// The levels of a report.
 fn levels(report: Report) -> Levels {
     Levels {
@@ -43,8 +53,8 @@ pub fn write(code: u8, samples: &[i16], out: &mut Vec<u8>) {
 
 /// Reads the next lines as those of a measurement of so many samples.
 ///
-/// None where one is missing, where the opening or a chunk was refused, or where the meter shown
-/// did not take those samples at that code.
+/// None where one is missing, where the opening or a chunk was refused, where the meter shown did
+/// not take those samples at that code, or where the report's totals are not that meter's.
 pub fn read<'a>(
     lines: &mut impl Iterator<Item = &'a str>,
     code: u8,
@@ -58,8 +68,9 @@ pub fn read<'a>(
             return None;
         }
     }
-    let report = printed::report(lines.next()?)?.map(levels);
+    let answer = printed::report(lines.next()?)?;
     let meter = printed::meter(lines.next()?)?;
-    let whole = meter.code == code && meter.n == length as u64;
+    let whole = meter.code == code && meter.n == length as u64 && totals_of(&answer, &meter);
+    let report = answer.map(levels);
     whole.then_some(Measurement { report, meter })
 }

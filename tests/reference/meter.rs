@@ -26,9 +26,13 @@ pub struct Meter {
     pub h: [u64; 15],
 }
 
-/// What a report adds to the meter's own n, s, sq and a_j (document 01, "The report").
-#[derive(Debug, PartialEq)]
+/// What a report holds (document 01, "The report").
+#[derive(Clone, Debug, PartialEq)]
 pub struct Report {
+    pub n: u64,
+    pub s: i64,
+    pub sq: u128,
+    pub a: [u64; 15],
     pub L: i64,
     pub A: i64,
     pub C: i64,
@@ -42,9 +46,9 @@ pub fn c(j: usize) -> u64 {
     1 << (j + 24)
 }
 
-/// lev of a number that has a level, signed for differences (document 01, "The level logarithm").
-fn steps(N: u128) -> i64 {
-    lev(N).expect("a report asks only for levels that exist") as i64
+/// lev, signed for differences (document 01, "The level logarithm").
+fn steps(N: u128) -> Option<i64> {
+    lev(N).map(|level| level as i64)
 }
 
 /// C_j (document 01, "The report").
@@ -186,27 +190,34 @@ impl Meter {
         }
     }
 
-    /// A_j where a_j is above 0 (document 01, "The report").
-    fn A_(&self, j: usize) -> Option<i64> {
-        if self.a[j] > 0 {
-            Some(steps(self.sq) - steps(u128::from(self.a[j])))
-        } else {
-            None
-        }
+    /// L where n and sq are above 0 (document 01, "The report").
+    fn L(&self) -> Option<i64> {
+        Some(steps(self.sq)? - steps(u128::from(self.n))?)
     }
 
-    /// d_j where a_j is above 0 (document 01, "The report").
-    fn d(&self, j: usize) -> Option<i64> {
+    /// A_j where j is one of 0 to 14 and sq and a_j are above 0 (document 01, "The report").
+    fn A_(&self, j: usize) -> Option<i64> {
+        let a_j = *self.a.get(j)?;
+        Some(steps(self.sq)? - steps(u128::from(a_j))?)
+    }
+
+    /// d_j where there is an A_j (document 01, "The report").
+    pub fn d(&self, j: usize) -> Option<i64> {
         self.A_(j).map(|A_j| A_j - C_(j) - M)
     }
 
     /// Whether a crossing is at j (document 01, "The report").
-    fn crossing_at(&self, j: usize) -> bool {
+    pub fn crossing_at(&self, j: usize) -> bool {
         let Some(d_j) = self.d(j) else {
             return false;
         };
         let falls = j >= 1 && d_j < 0 && self.d(j - 1).is_some_and(|before| before > 0);
         d_j == 0 || falls
+    }
+
+    /// Whether the crossing at j is the one used: none is lower (document 01, "The report").
+    pub fn uses_crossing(&self, j: usize) -> bool {
+        (0..j).all(|lower| !self.crossing_at(lower))
     }
 
     /// A and the lower and upper j at a crossing (document 01, "The report").
@@ -218,6 +229,27 @@ impl Meter {
         let (A_before, d_before) = (self.A_(j - 1)?, self.d(j - 1)?);
         let rise = ((A_j - A_before) * d_before).div_euclid(d_before - d_j);
         Some((A_before + rise, j - 1, j))
+    }
+
+    /// The report at j, where a crossing is there (document 01, "The report").
+    pub fn report_at(&self, j: usize) -> Option<Report> {
+        if !self.crossing_at(j) {
+            return None;
+        }
+        let L = self.L()?;
+        let (A, lower, upper) = self.active(j)?;
+        Some(Report {
+            n: self.n,
+            s: self.s,
+            sq: self.sq,
+            a: self.a,
+            L,
+            A,
+            C: A - M,
+            F: L - A,
+            lower,
+            upper,
+        })
     }
 
     /// The report, or its lowest refusal (document 01, "The report", "Why a call is refused").
@@ -234,19 +266,9 @@ impl Meter {
         let Some(d_0) = self.d(0) else {
             return Err(14);
         };
-        let crossing = (0..15).find(|&j| self.crossing_at(j));
-        match crossing.and_then(|j| self.active(j)) {
-            Some((A, lower, upper)) => {
-                let L = steps(self.sq) - steps(u128::from(self.n));
-                Ok(Report {
-                    L,
-                    A,
-                    C: A - M,
-                    F: L - A,
-                    lower,
-                    upper,
-                })
-            }
+        let crossing = (0..15).find(|&j| self.crossing_at(j) && self.uses_crossing(j));
+        match crossing.and_then(|j| self.report_at(j)) {
+            Some(report) => Ok(report),
             None if d_0 < 0 => Err(15),
             None => Err(16),
         }

@@ -8,10 +8,14 @@ pub fn numbers(line: &str, word: &str) -> Option<Vec<i128>> {
     rest.split(' ').map(|number| number.parse().ok()).collect()
 }
 
-/// The report of a report's line, or the number of its refusal.
+/// The report of a report's line, or the number of its refusal, which stands alone.
 pub fn report(line: &str) -> Option<Result<Report, u32>> {
     match numbers(line, "report")?[..] {
-        [0, L, A, C, F, lower, upper] => Some(Ok(Report {
+        [0, n, s, high, low, ref a @ .., L, A, C, F, lower, upper] => Some(Ok(Report {
+            n: u64::try_from(n).ok()?,
+            s: i64::try_from(s).ok()?,
+            sq: two_words(high, low)?,
+            a: fifteen(a)?,
             L: i64::try_from(L).ok()?,
             A: i64::try_from(A).ok()?,
             C: i64::try_from(C).ok()?,
@@ -19,9 +23,15 @@ pub fn report(line: &str) -> Option<Result<Report, u32>> {
             lower: usize::try_from(lower).ok()?,
             upper: usize::try_from(upper).ok()?,
         })),
-        [r] => Some(Err(u32::try_from(r).ok()?)),
+        [r] if r != 0 => Some(Err(u32::try_from(r).ok()?)),
         _ => None,
     }
+}
+
+/// A number of two words.
+fn two_words(high: i128, low: i128) -> Option<u128> {
+    let (high, low) = (u64::try_from(high).ok()?, u64::try_from(low).ok()?);
+    Some((u128::from(high) << 64) + u128::from(low))
 }
 
 /// Fifteen unsigned numbers.
@@ -41,7 +51,7 @@ pub fn meter(line: &str) -> Option<Meter> {
         code: u8::try_from(values[0]).ok()?,
         n: word(1)?,
         s: i64::try_from(values[2]).ok()?,
-        sq: (u128::from(word(3)?) << 64) + u128::from(word(4)?),
+        sq: two_words(values[3], values[4])?,
         P: word(5)?,
         Q: word(6)?,
         a: fifteen(&values[7..22])?,

@@ -2,7 +2,7 @@
 
 use crate::block;
 use crate::level::lev;
-use crate::meter::Meter;
+use crate::meter::{Meter, Report};
 use crate::records::{read, words, Record};
 
 /// The meter that the records act on.
@@ -24,7 +24,7 @@ impl Player {
             Record::Open(code) => format!("open {}", self.keep(Meter::open(*code))),
             Record::Chunk(samples) => format!("chunk {}", self.keep(self.meter.chunk(samples))),
             Record::Block(bytes) => format!("block {}", self.keep(self.meter.block(bytes))),
-            Record::Report => report_line(&self.meter),
+            Record::Report => report_line(&self.meter.report()),
             Record::Load(meter) => {
                 self.meter = meter.clone();
                 "load".to_string()
@@ -45,15 +45,18 @@ impl Player {
     }
 }
 
-/// The line of a report.
-fn report_line(meter: &Meter) -> String {
-    match meter.report() {
-        Ok(report) => format!(
-            "report 0 {} {} {} {} {} {}",
-            report.L, report.A, report.C, report.F, report.lower, report.upper
-        ),
-        Err(r) => format!("report {r}"),
-    }
+/// The line of a report, with all that it holds, or of its refusal.
+pub fn report_line(answer: &Result<Report, u32>) -> String {
+    let report = match answer {
+        Ok(report) => report,
+        Err(r) => return format!("report {r}"),
+    };
+    let (high, low) = words(report.sq);
+    let counts = report.a.map(|a_j| a_j.to_string()).join(" ");
+    format!(
+        "report 0 {} {} {high} {low} {counts} {} {} {} {} {} {}",
+        report.n, report.s, report.L, report.A, report.C, report.F, report.lower, report.upper
+    )
 }
 
 /// The line of a show: the 37 values.
