@@ -1,7 +1,8 @@
-//! Demand 3 checked over the printed answers to a list of calls, by E alone.
+//! Demand 3 checked over the printed answers to a list of calls, by E and by the meter shown.
 
+use crate::answer::clauses;
 use crate::exact::{counts_never_rise, thresholds, Exact};
-use crate::meter::Report;
+use crate::meter::{Meter, Report};
 use crate::printed::{self, numbers};
 use crate::rate::rate;
 use crate::records::{read, Record};
@@ -11,12 +12,24 @@ use crate::tally::Tally;
 /// E beside the printed answers, and the checks counted so far.
 struct Comparison {
     exact: Option<Exact>,
+    /// The meter last shown, if no call came after it.
+    shown: Option<Meter>,
     tally: Tally,
 }
 
 impl Comparison {
+    /// Nothing compared yet.
+    fn new() -> Comparison {
+        Comparison {
+            exact: None,
+            shown: None,
+            tally: Tally::new(),
+        }
+    }
+
     /// Compares one record's line.
     fn line(&mut self, k: usize, record: &Record, line: &str) {
+        let shown = self.shown.take();
         if let Record::Open(code) = record {
             let rate = rate(u32::from(*code));
             self.exact = rate.map(|rate| Exact::open(rate, &thresholds(rate)));
@@ -38,8 +51,11 @@ impl Comparison {
         match record {
             Record::Chunk(samples) => call(tally, &name, exact.chunk(samples), line, "chunk"),
             Record::Block(bytes) => call(tally, &name, exact.block(bytes), line, "block"),
-            Record::Show => show(tally, &name, exact, line),
-            Record::Report => report(tally, &name, exact, line),
+            Record::Show => self.shown = show(tally, &name, exact, line),
+            Record::Report => {
+                report(tally, &name, exact, shown.as_ref(), line);
+                self.shown = shown;
+            }
             _ => tally.holds(&format!("{name} a record of a list"), false),
         }
     }
@@ -54,13 +70,12 @@ fn call(tally: &mut Tally, name: &str, accepted: bool, line: &str, word: &str) {
     tally.holds(&format!("{name} acceptance"), agrees);
 }
 
-/// The clauses of demand 3 about a meter, with its total and its sum of squares.
-fn show(tally: &mut Tally, name: &str, exact: &Exact, line: &str) {
+/// The clauses of demand 3 about a meter, with its total and its sum of squares; gives the meter
+/// where it is one to report on.
+fn show(tally: &mut Tally, name: &str, exact: &Exact, line: &str) -> Option<Meter> {
     let meter = printed::meter(line);
     tally.holds(&format!("{name} 37 values"), meter.is_some());
-    let Some(meter) = meter else {
-        return;
-    };
+    let meter = meter?;
     let clauses = [
         ("n", meter.n == exact.y),
         ("sq", meter.sq == exact.sq),
@@ -68,21 +83,35 @@ fn show(tally: &mut Tally, name: &str, exact: &Exact, line: &str) {
         ("a_j against c_j", exact.counts_from_above(&meter.a)),
         ("a_j against c_j + D", exact.counts_from_below(&meter.a)),
         ("a_j never rises", counts_never_rise(&meter.a)),
+        ("refusal 2 lets it pass", !meter.refusal_2()),
     ];
     for (clause, holds) in clauses {
         tally.holds(&format!("{name} {clause}"), holds);
     }
+    (!meter.refusal_2()).then_some(meter)
 }
 
-/// The clauses of demand 3 about a report; a refused one has none.
-fn report(tally: &mut Tally, name: &str, exact: &Exact, line: &str) {
-    let Report {
-        A, lower, upper, ..
-    } = match printed::report(line) {
-        Some(Ok(report)) => report,
-        Some(Err(12..=16)) => return,
-        _ => return tally.holds(&format!("{name} a report's numbers"), false),
+/// The clauses of demand 3 about a report on the meter shown before it.
+fn report(tally: &mut Tally, name: &str, exact: &Exact, shown: Option<&Meter>, line: &str) {
+    let answer = printed::report(line);
+    tally.holds(&format!("{name} a report or a refusal"), answer.is_some());
+    tally.holds(&format!("{name} a meter shown before it"), shown.is_some());
+    let (Some(answer), Some(meter)) = (answer, shown) else {
+        return;
     };
+    for (clause, holds) in clauses(meter, &answer) {
+        tally.holds(&format!("{name} {clause}"), holds);
+    }
+    if let Ok(report) = answer {
+        level(tally, name, exact, &report);
+    }
+}
+
+/// The clauses of demand 3 about the active level of a report.
+fn level(tally: &mut Tally, name: &str, exact: &Exact, report: &Report) {
+    let &Report {
+        A, lower, upper, ..
+    } = report;
     let whole = A > 0 && lower <= upper && upper <= 14;
     tally.holds(&format!("{name} A above 0, j in range"), whole);
     if whole {
@@ -95,10 +124,7 @@ fn report(tally: &mut Tally, name: &str, exact: &Exact, line: &str) {
 
 /// Compares the lines printed for the records of a script.
 fn compare(records: &[Record], lines: &[&str]) -> Tally {
-    let mut comparison = Comparison {
-        exact: None,
-        tally: Tally::new(),
-    };
+    let mut comparison = Comparison::new();
     comparison
         .tally
         .equal("one line for each record", lines.len(), records.len());
@@ -136,10 +162,7 @@ pub fn exact(script: &[u8]) -> Option<Tally> {
 
 /// E's counts after a script, at each c_j and then at each c_j + D; None where there is no E.
 pub fn counts(script: &[u8]) -> Option<String> {
-    let mut comparison = Comparison {
-        exact: None,
-        tally: Tally::new(),
-    };
+    let mut comparison = Comparison::new();
     let (calls, bad) = read(script);
     let mut player = Player::new();
     for (k, call) in calls.iter().enumerate() {

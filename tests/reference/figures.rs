@@ -1,6 +1,7 @@
-//! The worked figures, and a few further ones.
+//! The worked figures, and a few further ones; wrong answers that the check of demand 3 refuses.
 
 use crate::block;
+use crate::doctored::doctored;
 use crate::level::lev;
 use crate::meter::{Meter, Report};
 use crate::rate::RATES;
@@ -18,6 +19,7 @@ pub fn figures() -> bool {
     program(&mut tally);
     exact_threshold(&mut tally);
     further_reports(&mut tally);
+    doctored(&mut tally);
     tally.finish()
 }
 

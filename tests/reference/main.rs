@@ -5,10 +5,12 @@
 
 #![allow(non_snake_case)]
 
+mod answer;
 mod big;
 mod block;
 mod clause11;
 mod compare;
+mod doctored;
 mod exact;
 mod figures;
 mod float;

@@ -5,7 +5,7 @@ use std::fmt::Debug;
 /// The checks so far.
 pub struct Tally {
     passed: u64,
-    failed: u64,
+    failed: Vec<String>,
 }
 
 impl Tally {
@@ -13,21 +13,20 @@ impl Tally {
     pub fn new() -> Tally {
         Tally {
             passed: 0,
-            failed: 0,
+            failed: Vec::new(),
         }
     }
 
-    /// Counts a check that holds or not, with a line for one that does not.
+    /// Counts a check that holds or not.
     pub fn holds(&mut self, name: &str, condition: bool) {
         if condition {
             self.passed += 1;
         } else {
-            self.failed += 1;
-            println!("{name} fails");
+            self.failed.push(name.to_string());
         }
     }
 
-    /// Counts a check that holds or not, with its line either way.
+    /// Counts a check that holds or not, with a line for one that holds too.
     pub fn shown(&mut self, line: &str, condition: bool) {
         if condition {
             println!("{line}");
@@ -41,9 +40,17 @@ impl Tally {
         self.holds(&name, found == expected);
     }
 
-    /// Prints the counts and tells whether none failed.
+    /// The names of the checks that failed.
+    pub fn failed(&self) -> &[String] {
+        &self.failed
+    }
+
+    /// Prints a line for each check that failed and the counts, and tells whether none failed.
     pub fn finish(&self) -> bool {
-        println!("{} passed, {} failed", self.passed, self.failed);
-        self.failed == 0
+        for name in &self.failed {
+            println!("{name} fails");
+        }
+        println!("{} passed, {} failed", self.passed, self.failed.len());
+        self.failed.is_empty()
     }
 }

@@ -2,10 +2,11 @@
 
 use super::random::Random;
 use super::script::Script;
-use super::signals::{grazing, signal};
+use super::signals::{full_scale, grazing, hum_and_shout, noise_within, signal};
 use crate::block;
 use crate::rate::{Rate, RATES};
 use crate::records::Record;
+use crate::speech::voice;
 
 /// About the most samples of a list.
 const TOTAL: usize = 600;
@@ -15,7 +16,7 @@ pub fn list(seed: u64, count: u64) -> Vec<u8> {
     let mut script = Script::new(seed);
     let rate = &RATES[script.random.pick(&[0, 0, 0, 0, 1, 2])];
     script.add(Record::Open(rate.code));
-    let samples = signals(&mut script.random, rate);
+    let samples = samples(&mut script.random, rate, seed);
     let mut rest = &samples[..];
     for _ in 0..count {
         if script.random.once_in(4) {
@@ -29,8 +30,35 @@ pub fn list(seed: u64, count: u64) -> Vec<u8> {
     script.bytes
 }
 
-/// The samples of a list: two signals, one that takes it all, or one that grazes a threshold.
-fn signals(random: &mut Random, rate: &Rate) -> Vec<i16> {
+/// The samples of a list. One seed in three is for one answer of a report, each in its turn: for
+/// refusals 12 to 16, then for two crossings and for speech. The others have any samples.
+fn samples(random: &mut Random, rate: &Rate, seed: u64) -> Vec<i16> {
+    if seed % 3 != 0 {
+        return any_samples(random, rate);
+    }
+    match seed / 3 % 7 {
+        0 => Vec::new(),
+        1 => vec![0; TOTAL],
+        2 => noise_within(random, 1, TOTAL),
+        3 => noise_within(random, 6, TOTAL),
+        4 => {
+            let few = random.between(1, 8) as usize;
+            full_scale(random, few)
+        }
+        5 => hum_and_shout(random),
+        _ => spoken(random, rate),
+    }
+}
+
+/// A stretch of a voice.
+fn spoken(random: &mut Random, rate: &Rate) -> Vec<i16> {
+    let voice = voice(rate, random.next());
+    let start = random.below((voice.len() - TOTAL) as u64) as usize;
+    voice[start..start + TOTAL].to_vec()
+}
+
+/// Two signals, one that takes it all, or one that grazes a threshold.
+fn any_samples(random: &mut Random, rate: &Rate) -> Vec<i16> {
     if random.once_in(3) {
         return grazing(random, rate, TOTAL);
     }

@@ -38,6 +38,11 @@ fn triangle(random: &mut Random, length: usize) -> Vec<i16> {
 /// Noise of some loudness.
 pub fn noise(random: &mut Random, length: usize) -> Vec<i16> {
     let most = 1 << random.between(0, 15);
+    noise_within(random, most, length)
+}
+
+/// Noise no larger than this either way.
+pub fn noise_within(random: &mut Random, most: u64, length: usize) -> Vec<i16> {
     (0..length).map(|_| random.sample(most)).collect()
 }
 
@@ -55,7 +60,7 @@ fn bursts(random: &mut Random, I: u64, length: usize) -> Vec<i16> {
 }
 
 /// The loudest samples of either sign.
-fn full_scale(random: &mut Random, length: usize) -> Vec<i16> {
+pub fn full_scale(random: &mut Random, length: usize) -> Vec<i16> {
     match random.below(3) {
         0 => vec![-32768; length],
         1 => vec![32767; length],
@@ -72,11 +77,20 @@ fn settling(random: &mut Random, length: usize) -> Vec<i16> {
         .collect()
 }
 
+/// Steady hum that ends in a shout, for which code 1 has a crossing each.
+pub fn hum_and_shout(random: &mut Random) -> Vec<i16> {
+    let unit = 1 << random.below(10);
+    let hum = vec![3 * unit; random.between(250, 350) as usize];
+    let loudness = random.between(24, 30) as i16;
+    let shout = vec![loudness * unit; random.between(30, 40) as usize];
+    [hum, shout].concat()
+}
+
 /// Noise, a kick that brings Q to within a few units of a threshold not reached before, silence.
 pub fn grazing(random: &mut Random, rate: &Rate, length: usize) -> Vec<i16> {
     let start = random.between(60, 200) as usize;
     let most = 1 << random.between(0, 10);
-    let mut samples: Vec<i16> = (0..start).map(|_| random.sample(most)).collect();
+    let mut samples = noise_within(random, most, start);
     let (meter, _) = Meter::open(rate.code).0.chunk(&samples);
     let unreached = (0..15).find(|&j| meter.a[j] == 0);
     let j = unreached.expect("quiet noise leaves thresholds unreached");

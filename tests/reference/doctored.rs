@@ -1,0 +1,132 @@
+//! Wrong answers to lists of calls, to see that the check of demand 3 refuses each of them.
+
+use crate::compare::agrees;
+use crate::measurement;
+use crate::meter::{Meter, Report};
+use crate::records::Record;
+use crate::replay::{replay, report_line, Player};
+use crate::tally::Tally;
+
+/// A list of calls at code 1: an opening, a chunk, a show and a report.
+struct List {
+    script: Vec<u8>,
+    /// The lines before the report's.
+    lines: String,
+    meter: Meter,
+}
+
+impl List {
+    /// The list of some samples.
+    fn new(samples: &[i16]) -> List {
+        let mut player = Player::new();
+        let (mut script, mut lines) = (Vec::new(), String::new());
+        let chunk = Record::Chunk(samples.to_vec());
+        for record in [Record::Open(1), chunk, Record::Show] {
+            record.write(&mut script);
+            lines += &player.answer(&record);
+            lines += "\n";
+        }
+        Record::Report.write(&mut script);
+        let meter = player.meter;
+        List {
+            script,
+            lines,
+            meter,
+        }
+    }
+
+    /// Checks that with this line for the report these clauses of demand 3 fail, and no other.
+    fn breaks(&self, tally: &mut Tally, line: &str, clauses: &[&str]) {
+        let output = format!("{}{line}\n", self.lines);
+        let agreed = agrees(&self.script, &output).expect("no record is bad");
+        let names = agreed.failed().iter();
+        let broken: Vec<&str> = names.filter_map(|name| name.rsplit(": ").next()).collect();
+        tally.equal(line, &broken[..], clauses);
+    }
+}
+
+/// Steady hum that ends in a shout: crossings at 2 and at 4.
+fn hum_and_shout() -> Vec<i16> {
+    [&[6; 250][..], &[52; 30]].concat()
+}
+
+/// Every wrong answer.
+pub fn doctored(tally: &mut Tally) {
+    numbers(tally);
+    reports(tally);
+    lines(tally);
+    totals(tally);
+}
+
+/// A list for each answer, on which any other breaks two clauses: the right one's and its own.
+fn numbers(tally: &mut Tally) {
+    let rows = [
+        (0, "0 just where a crossing is", hum_and_shout()),
+        (12, "12 just where n = 0", vec![]),
+        (13, "13 just where n > 0, sq = 0", vec![0]),
+        (14, "14 just where n, sq > 0, a_0 = 0", vec![1]),
+        (15, "15 just where d_0 < 0, no crossing", vec![3; 100]),
+        (16, "16 just where d_0 > 0, no crossing", vec![32767]),
+    ];
+    for (right, due, samples) in &rows {
+        let list = List::new(samples);
+        list.breaks(tally, &report_line(&list.meter.report()), &[]);
+        list.breaks(tally, "report 2", &[due]);
+        for (wrong, own, _) in rows[1..].iter().filter(|row| row.0 != *right) {
+            let mut clauses = [*due, *own];
+            clauses.sort();
+            list.breaks(tally, &format!("report {wrong}"), &clauses);
+        }
+    }
+}
+
+/// The report at the other crossing, and reports with one thing off.
+fn reports(tally: &mut Tally) {
+    let list = List::new(&hum_and_shout());
+    let [lowest, other] = [2, 4].map(|j| list.meter.report_at(j).expect("a crossing at j"));
+    let with = |change: &dyn Fn(&mut Report)| {
+        let mut report = lowest.clone();
+        change(&mut report);
+        report
+    };
+    let rows = [
+        ("the crossing that is used", other),
+        ("a crossing at the upper threshold", with(&|r| r.upper = 3)),
+        ("the lower threshold", with(&|r| r.lower = 0)),
+        ("the report's n", with(&|r| r.n += 1)),
+        ("the report's s", with(&|r| r.s = -r.s)),
+        ("the report's sq", with(&|r| r.sq += 1)),
+        ("the report's sq", with(&|r| r.sq += 1 << 64)),
+        ("the report's a_j", with(&|r| r.a[14] += 1)),
+        ("the report's a_j", with(&|r| r.a = list.meter.h)),
+        ("L at the crossing", with(&|r| r.L += 1)),
+        ("A at the crossing", with(&|r| r.A += 1)),
+        ("C at the crossing", with(&|r| r.C += 1)),
+        ("F at the crossing", with(&|r| r.F += 1)),
+    ];
+    for (clause, report) in rows {
+        list.breaks(tally, &report_line(&Ok(report)), &[clause]);
+    }
+}
+
+/// Lines with more than a refusal on them, and with less or more than a whole report.
+fn lines(tally: &mut Tally) {
+    let list = List::new(&hum_and_shout());
+    let whole = report_line(&list.meter.report());
+    let (less, more) = (&whole[..whole.len() - 2], format!("{whole} 0"));
+    for line in ["report", "report 0", "report 12 0", less, &more] {
+        list.breaks(tally, line, &["a report or a refusal"]);
+    }
+}
+
+/// A measurement whose report has another n than the meter shown after it, which is not read back.
+fn totals(tally: &mut Tally) {
+    let samples = hum_and_shout();
+    let mut script = Vec::new();
+    measurement::write(1, &samples, &mut script);
+    let right = replay(&script);
+    let wrong = right.replace("report 0 280 ", "report 0 281 ");
+    let read = |printed: &str| measurement::read(&mut printed.lines(), 1, samples.len()).is_some();
+    tally.equal("a measurement read back", read(&right), true);
+    tally.equal("one with another n", read(&wrong), false);
+}
