@@ -1,6 +1,5 @@
--- Every row of the table holds: each side is computed. This is the one place that opens lev.
+-- Every row of the table holds: the tests of all rows are computed. This is the one place that opens lev.
 use mathlib.Core.Path.{refl}
-use lib.Dec.{lit≤}
 use Rattle.level.specs.Logarithm.{placeUpTo, place, start as startOf, bit, next, spell, lev, levelOf}
 use Rattle.rate.specs.Rates.{rateOf, isNamed, rowOf}
 use Rattle.refusal.specs.First.{firstOf}
@@ -18,78 +17,11 @@ use Rattle.setting.specs.Settings.{kOf, iOf}
 use Rattle.meter.specs.Calls.{fresh, afterSamples, chunkCall, blockCall, reportCall}
 use Rattle.exact.specs.Exact.{startAt, start, reaches, countNext, hangoverNext, take, takeAll, accepts, samplesOf, fed, exactly}
 use Rattle.exact.specs.Lists.{called, after}
-use Rattle.figures.specs.Rows.{given, sampledMeter, levelsOf, valuesOf, Holds, All}
+use Rattle.figures.specs.Meters.{given}
+use Rattle.figures.specs.Rows.{sampledMeter, meterFrom, exactFrom, numbersOf, levelsOf, valuesOf, All}
 use Rattle.figures.specs.Table.{lowestBytes, twenty, run, table}
+use Rattle.figures.proofs.Tests.{same-levels, same-values, testOf, test, allTrue, sound-all}
 
 pub figures : All table
-unfolding placeUpTo place startOf bit next spell lev levelOf rateOf isNamed rowOf firstOf number kind rateCode count before signed samplesAt samplesIn word sumBelow checkSum weightedSum wrongLength wrongCheck wrongKind wrongRate wrongCount zeros usedUnused blockRules sound counted hung smooth rectified threshold listFrom fifteen words freshState kOf iOf fresh afterSamples summed counts hangovers sample samples longTerm activeAt levelOfThreshold excess isCrossing lowestFrom crossing lowerOf activeLevel someBelow unnamedCode unnamedSetting manySamples largeSum largeSquares largeEnvelope longHangover largeCount risingCounts fallingHangovers impossible longChunk wrongPlace tooMany chunkRules blockCallRules levelsAt noLevels crossingIn firstExcess crossingOf firstOfMeter noSamples noSignal noActivity levelBelow levelAbove reportRules noReport reportAt reportFor chunkCall blockCall reportCall startAt start reaches countNext hangoverNext take takeAll accepts samplesOf fed exactly called after given sampledMeter levelsOf valuesOf Holds All lowestBytes twenty run table
-figures = (
-  refl,
-  (
-    refl,
-    (
-      refl,
-      (
-        refl,
-        (
-          refl,
-          (
-            refl,
-            (
-              refl,
-              (
-                refl,
-                (
-                  (refl, refl, refl, refl),
-                  (
-                    (refl, refl, refl, refl),
-                    (
-                      (refl, refl),
-                      (
-                        (refl, refl),
-                        (
-                          (refl, refl),
-                          (
-                            refl,
-                            (
-                              (refl, refl, refl, refl),
-                              (
-                                (refl, refl),
-                                (
-                                  (refl, refl),
-                                  (
-                                    refl,
-                                    (
-                                      refl,
-                                      (
-                                        refl,
-                                        (
-                                          refl,
-                                          (
-                                            refl,
-                                            (
-                                              refl,
-                                              ((refl, lit≤ tt), tt),
-                                            ),
-                                          ),
-                                        ),
-                                      ),
-                                    ),
-                                  ),
-                                ),
-                              ),
-                            ),
-                          ),
-                        ),
-                      ),
-                    ),
-                  ),
-                ),
-              ),
-            ),
-          ),
-        ),
-      ),
-    ),
-  ),
-)
+unfolding placeUpTo place startOf bit next spell lev levelOf rateOf isNamed rowOf firstOf number kind rateCode count before signed samplesAt samplesIn word sumBelow checkSum weightedSum wrongLength wrongCheck wrongKind wrongRate wrongCount zeros usedUnused blockRules sound counted hung smooth rectified threshold listFrom fifteen words freshState kOf iOf fresh afterSamples summed counts hangovers sample samples longTerm activeAt levelOfThreshold excess isCrossing lowestFrom crossing lowerOf activeLevel someBelow unnamedCode unnamedSetting manySamples largeSum largeSquares largeEnvelope longHangover largeCount risingCounts fallingHangovers impossible longChunk wrongPlace tooMany chunkRules blockCallRules levelsAt noLevels crossingIn firstExcess crossingOf firstOfMeter noSamples noSignal noActivity levelBelow levelAbove reportRules noReport reportAt reportFor chunkCall blockCall reportCall startAt start reaches countNext hangoverNext take takeAll accepts samplesOf fed exactly called after given sampledMeter meterFrom exactFrom numbersOf levelsOf valuesOf lowestBytes twenty run table same-levels same-values testOf test allTrue
+figures = sound-all table refl

@@ -1,2 +1,4 @@
+pub mod Blocks
+pub mod Meters
 pub mod Rows
 pub mod Table

@@ -1,18 +1,21 @@
 -- Rows of worked figures, and what each kind of row says.
 use mathlib.Core.List.{List, [], _∷_}
-use mathlib.Core.Option.{some}
+use mathlib.Core.Option.{none, some}
 use mathlib.Core.Path.{_≡_}
-use Prim.Native.Nat.{ℕ, _+_, _*_, _^_, _≤_}
+use Prim.Native.Nat.{ℕ, _+_, _-_, _*_, _^_, _≤_}
 use lib.IntN.{ℤ, pos}
-use lib.ListN.{replicate}
+use lib.ListN.{length}
 use Rattle.level.specs.Logarithm.{levelOf}
+use Rattle.rate.specs.Rates.{rowOf}
+use Rattle.block.specs.Refusals.{hostCheck}
 use Rattle.sample.specs.Envelope.{threshold}
-use Rattle.sample.specs.Sample.{words}
 use Rattle.meter.specs.declared.Meter.{Meter}
 use Rattle.meter.specs.declared.Report.{Report}
-use Rattle.meter.specs.Calls.{fresh, afterSamples, reportCall}
-use Rattle.exact.specs.Demands.{meterAfter, exactAfter, countAt}
-use Rattle.exact.specs.Lists.{Call}
+use Rattle.meter.specs.Calls.{afterSamples, openCall, chunkCall, reportCall}
+use Rattle.exact.specs.Demands.{envelopeAfter, exactEnvelopeAfter, meterAfter, exactAfter, countAt}
+use Rattle.exact.specs.Exact.{E}
+use Rattle.exact.specs.Lists.{Call, called}
+use Rattle.figures.specs.Meters.{settingOf, freshAt, given}
 
 -- the levels of a report
 pub record Levels : Type 0 where
@@ -37,29 +40,45 @@ pub record Values : Type 0 where
 pub data Row : Type 0 where
   -- lev(N) is v
   level : (N v : ℕ) → Row
+  -- N has no level
+  noLevel : (N : ℕ) → Row
   -- a fresh meter of a code after samples has P, Q and activity counts a, and its report is answered with number
   sampled : (code : ℕ) (xs : List ℤ) (P Q : ℕ) (a : List ℕ) (number : ℕ) → Row
   -- a meter handed in at code 2 with n, sq and a gets a report of these levels
   reported : (n sq : ℕ) (a : List ℕ) → Levels → Row
   -- a meter handed in at code 2 with n, sq and a is refused a report with number
   refused : (n sq : ℕ) (a : List ℕ) (number : ℕ) → Row
+  -- opening with a code is answered with number
+  opened : (code number : ℕ) → Row
+  -- a meter handed in with an empty chunk is answered with number
+  handedIn : Meter → (number : ℕ) → Row
+  -- calls, the first on this meter, are answered with these numbers in turn
+  answered : Meter → List Call → (numbers : List ℕ) → Row
+  -- the line host hands over bytes and a code, and is answered with number
+  checked : (bytes : List ℕ) (code number : ℕ) → Row
   -- after calls from a fresh meter of a code the meter has these values
   played : (code : ℕ) → List Call → Values → Row
-  -- calls from a fresh meter of a code, after which A is reported and one step more than A does not exceed E's exact level at the lower threshold
-  needsTwo : (code : ℕ) → List Call → (A : ℕ) → Row
   -- after calls from a fresh start at a code E's count at threshold c is u
   counted : (code : ℕ) → List Call → (c u : ℕ) → Row
-
--- a meter with n, sq and a, at code 2, all else zero
-unfoldable pub given : (n sq : ℕ) → List ℕ → Meter
-given n sq a =
-    record {
-      setting = record { code = 2 };
-      state = record { sums = record { n = n; s = pos 0; sq = words sq; p = 0; q = 0 }; a = a; h = replicate 15 0 };
-    }
+  -- calls from a fresh meter of a code, after which A is reported and one step more than A does not exceed E's exact level at the lower threshold
+  needsTwo : (code : ℕ) → List Call → (A : ℕ) → Row
+  -- samples from a fresh start at a code, after which the envelope is Q, and E's q is not below Q + (D − 1)
+  needsD : (code : ℕ) (xs : List ℤ) (Q : ℕ) → Row
 
 unfoldable pub sampledMeter : ℕ → List ℤ → Meter
-sampledMeter code xs = afterSamples (fresh (record { code = code })) xs
+sampledMeter code xs = afterSamples (freshAt code) xs
+
+-- the meter, and E, after calls from a fresh start at a code
+unfoldable pub meterFrom : ℕ → List Call → Meter
+meterFrom code calls = meterAfter code calls
+
+unfoldable pub exactFrom : ℕ → List Call → E
+exactFrom code calls = exactAfter code calls
+
+-- the numbers that calls get in turn: each is given what the one before handed back
+unfoldable pub numbersOf : Meter → List Call → List ℕ
+numbersOf m [] = []
+numbersOf m (call ∷ calls) = let got = called m call in got .number ∷ numbersOf (got .meter) calls
 
 unfoldable pub levelsOf : Report → Levels
 levelsOf r =
@@ -87,17 +106,25 @@ valuesOf m =
 
 unfoldable pub Holds : Row → Type 0
 Holds (level N v) = levelOf N ≡ some (pos v)
+Holds (noLevel N) = levelOf N ≡ none
 Holds (sampled code xs P Q a number) =
     let m = sampledMeter code xs in
     (m .state .sums .p ≡ P) × (m .state .sums .q ≡ Q) × (m .state .a ≡ a) × (reportCall m .number ≡ number)
 Holds (reported n sq a r) = (reportCall (given n sq a) .number ≡ 0) × (levelsOf (reportCall (given n sq a) .report) ≡ r)
 Holds (refused n sq a number) = reportCall (given n sq a) .number ≡ number
-Holds (played code calls v) = valuesOf (meterAfter code calls) ≡ v
+Holds (opened code number) = openCall (settingOf code) .number ≡ number
+Holds (handedIn m number) = chunkCall m [] .number ≡ number
+Holds (answered m calls numbers) = numbersOf m calls ≡ numbers
+Holds (checked bytes code number) = hostCheck bytes code ≡ number
+Holds (played code calls v) = valuesOf (meterFrom code calls) ≡ v
+Holds (counted code calls c u) = countAt (exactFrom code calls) c ≡ u
 Holds (needsTwo code calls A) =
-    let r = reportCall (meterAfter code calls) .report in
-    let e = exactAfter code calls in
+    let r = reportCall (meterFrom code calls) .report in
+    let e = exactFrom code calls in
     (r .levels .active .0 ≡ pos A) × (2 ^ (A + 1) * countAt e (threshold (r .levels .lower)) ^ 4096 ≤ e .sq ^ 4096)
-Holds (counted code calls c u) = countAt (exactAfter code calls) c ≡ u
+Holds (needsD code xs Q) =
+    let r = rowOf code in
+    (envelopeAfter (r .k) (r .i) xs ≡ Q) × ((Q + (r .d - 1)) * (2 ^ 20) ^ (length xs + 1) ≤ exactEnvelopeAfter (r .k) (r .i) xs)
 
 -- every row of a table holds
 unfoldable pub All : List Row → Type 0

@@ -1,0 +1,62 @@
+-- The meters that rows hand in.
+use mathlib.Core.List.{List}
+use Prim.Native.Nat.{ℕ}
+use lib.IntN.{ℤ, pos}
+use lib.ListN.{replicate}
+use Rattle.sample.specs.declared.State.{State}
+use Rattle.sample.specs.declared.Sums.{Sums}
+use Rattle.sample.specs.Sample.{words}
+use Rattle.meter.specs.declared.Meter.{Meter}
+use Rattle.meter.specs.declared.Setting.{Setting}
+use Rattle.meter.specs.Calls.{fresh}
+
+-- the setting of a code, and the fresh meter of one
+abbrev pub settingOf : ℕ → Setting
+settingOf code = record { code = code }
+
+abbrev pub freshAt : ℕ → Meter
+freshAt code = fresh (settingOf code)
+
+-- a meter with n, sq and a, at code 2, all else zero
+unfoldable pub given : (n sq : ℕ) → List ℕ → Meter
+given n sq a =
+    record {
+      setting = settingOf 2;
+      state = record { sums = record { n = n; s = pos 0; sq = words sq; p = 0; q = 0 }; a = a; h = replicate 15 0 };
+    }
+
+-- a meter of code 2 that could be anyone's: 1000 samples, all else zero
+abbrev pub plain : Meter
+plain = given 1000 0 (replicate 15 0)
+
+-- a meter with one of its fields changed
+abbrev pub withCode : ℕ → Meter → Meter
+withCode code m = record { setting = settingOf code; state = m .state }
+
+abbrev pub withState : State → Meter → Meter
+withState x m = record { setting = m .setting; state = x }
+
+abbrev pub withSums : Sums → Meter → Meter
+withSums x m = withState (record { sums = x; a = m .state .a; h = m .state .h }) m
+
+abbrev pub withN : ℕ → Meter → Meter
+withN x m = let v = m .state .sums in withSums (record { n = x; s = v .s; sq = v .sq; p = v .p; q = v .q }) m
+
+abbrev pub withS : ℤ → Meter → Meter
+withS x m = let v = m .state .sums in withSums (record { n = v .n; s = x; sq = v .sq; p = v .p; q = v .q }) m
+
+-- sq, in its two words
+abbrev pub withSq : (high low : ℕ) → Meter → Meter
+withSq high low m = let v = m .state .sums in withSums (record { n = v .n; s = v .s; sq = record { high = high; low = low }; p = v .p; q = v .q }) m
+
+abbrev pub withP : ℕ → Meter → Meter
+withP x m = let v = m .state .sums in withSums (record { n = v .n; s = v .s; sq = v .sq; p = x; q = v .q }) m
+
+abbrev pub withQ : ℕ → Meter → Meter
+withQ x m = let v = m .state .sums in withSums (record { n = v .n; s = v .s; sq = v .sq; p = v .p; q = x }) m
+
+abbrev pub withA : List ℕ → Meter → Meter
+withA x m = withState (record { sums = m .state .sums; a = x; h = m .state .h }) m
+
+abbrev pub withH : List ℕ → Meter → Meter
+withH x m = withState (record { sums = m .state .sums; a = m .state .a; h = x }) m
