@@ -1,11 +1,14 @@
 -- The worked figures. Those of document 01, "Worked figures", come first; then our own, for what no row of the document tells apart.
 use mathlib.Core.List.{List, [], _∷_, _++_}
-use Prim.Native.Nat.{ℕ, zero, suc, _+_, _-_, _^_}
+use Prim.Native.Nat.{ℕ, _+_, _-_, _*_, _^_}
 use lib.IntN.{ℤ, pos, negsuc}
 use lib.ListN.{replicate}
 use Rattle.sample.specs.Envelope.{threshold}
+use Rattle.meter.specs.Calls.{openCall}
 use Rattle.exact.specs.Lists.{Call, chunk, block}
-use Rattle.figures.specs.Rows.{Row, level, sampled, reported, refused, played, counted, needsTwo}
+use Rattle.figures.specs.Blocks.{blockOf, good, full, zeroSum, highSum, threeBytes, wrongSum, wrongWeighted, otherKind, otherCode, noCount, highCount, usedNext, usedLast, late, last}
+use Rattle.figures.specs.Meters.{settingOf, freshAt, plain, withCode, withN, withS, withSq, withP, withQ, withA, withH}
+use Rattle.figures.specs.Rows.{Row, level, noLevel, sampled, reported, refused, opened, handedIn, answered, checked, played, counted, needsTwo, needsD}
 
 -- x for the first k of fifteen, 0 for the others
 abbrev first : (k x : ℕ) → List ℕ
@@ -15,22 +18,36 @@ first k x = replicate k x ++ replicate (15 - k) 0
 abbrev minus : ℕ → ℤ
 minus x = negsuc (x - 1)
 
--- k samples −32768, as the bytes of a block
-unfoldable pub lowestBytes : ℕ → List ℕ
-lowestBytes zero = []
-lowestBytes (suc k) = 0 ∷ 128 ∷ lowestBytes k
-
 -- a block at code 1 with 40 samples before it, of twenty samples −32768
 unfoldable pub twenty : List ℕ
-twenty = (1 ∷ 1 ∷ 20 ∷ 0 ∷ 40 ∷ []) ++ replicate 7 0 ++ lowestBytes 20 ++ replicate 456 0 ++ (71 ∷ 1 ∷ 116 ∷ 67 ∷ [])
+twenty = blockOf 1 1 20 40 (replicate 20 32768) 327 17268
 
 -- 260 samples at code 1: loud ones, a refused block of three bytes, that block, and near silence in which hangovers run out
 unfoldable pub run : List Call
 run =
     chunk (replicate 30 (pos 9000) ++ replicate 10 (minus 20000))
-    ∷ block (1 ∷ 1 ∷ 1 ∷ [])
+    ∷ block threeBytes
     ∷ block twenty
     ∷ chunk (replicate 170 (pos 0) ++ replicate 30 (pos 300))
+    ∷ []
+
+-- every refusal of a call on a meter that 2 lets pass, but 11; among them two blocks and a chunk that are accepted
+unfoldable pub calls : List Call
+calls =
+    chunk (replicate 4097 (pos 0))
+    ∷ block threeBytes
+    ∷ block wrongSum
+    ∷ block wrongWeighted
+    ∷ block otherKind
+    ∷ block otherCode
+    ∷ block noCount
+    ∷ block highCount
+    ∷ block usedNext
+    ∷ block usedLast
+    ∷ block late
+    ∷ block good
+    ∷ block good
+    ∷ chunk (replicate 4096 (pos 0))
     ∷ []
 
 unfoldable pub table : List Row
@@ -49,6 +66,99 @@ table =
     ∷ reported 16384 (2 ^ 30) (replicate 7 4096 ++ (2048 ∷ replicate 7 0)) (record { L = pos 65536; A = pos 76669; C = pos 55034; F = minus 11133; lower = 6; upper = 7 })
     ∷ reported 32768 1275068 (first 1 32768) (record { L = pos 21635; A = pos 21635; C = pos 0; F = pos 0; lower = 0; upper = 0 })
     ∷ refused 32768 (2 ^ 20) (first 1 32768) 15
+    -- document 01's rows that are executed
+    ∷ answered (withN (2 ^ 48) plain) (chunk (pos 1 ∷ []) ∷ chunk [] ∷ []) (11 ∷ 0 ∷ [])
+    ∷ answered (freshAt 2) (chunk (replicate 4097 (pos 0)) ∷ chunk (replicate 4096 (pos 0)) ∷ []) (3 ∷ 0 ∷ [])
+    -- the ends of lev's range, and past them
+    ∷ level (2 ^ 80) 327680
+    ∷ noLevel 0
+    ∷ noLevel (2 ^ 80 + 1)
+    -- the third rate
+    ∷ sampled 3 (pos 32767 ∷ []) 1143961504 2380489 (first 0 0) 14
+    -- a crossing at the last threshold
+    ∷ reported 16384 (2 ^ 44) (first 15 4096) (record { L = pos 122880; A = pos 131072; C = pos 109437; F = minus 8192; lower = 13; upper = 14 })
+    -- the other refusals of a report
+    ∷ refused 1 (2 ^ 30 + 1) (first 0 0) 2
+    ∷ refused 0 0 (first 0 0) 12
+    ∷ refused 1 0 (first 0 0) 13
+    ∷ refused (2 ^ 40) (2 ^ 64) (first 0 0) 14
+    ∷ refused 16384 (2 ^ 40) (first 8 4096) 16
+    -- opening
+    ∷ opened 0 1
+    ∷ opened 1 0
+    ∷ opened 2 0
+    ∷ opened 3 0
+    ∷ opened 4 1
+    ∷ opened 257 1
+    -- refusal 2: the code, and the meter beside a refused opening
+    ∷ handedIn plain 0
+    ∷ handedIn (withCode 0 plain) 2
+    ∷ handedIn (withCode 4 plain) 2
+    ∷ handedIn (withCode 257 plain) 2
+    ∷ handedIn (openCall (settingOf 4) .meter) 2
+    -- n > 2^48
+    ∷ handedIn (withN (2 ^ 48) plain) 0
+    ∷ handedIn (withN (2 ^ 48 + 1) plain) 2
+    -- |s| > n·2^15
+    ∷ handedIn (withS (pos (1000 * 2 ^ 15)) plain) 0
+    ∷ handedIn (withS (pos (1000 * 2 ^ 15 + 1)) plain) 2
+    ∷ handedIn (withS (minus (1000 * 2 ^ 15)) plain) 0
+    ∷ handedIn (withS (minus (1000 * 2 ^ 15 + 1)) plain) 2
+    ∷ handedIn (withS (minus (2 ^ 63)) (withN (2 ^ 48) plain)) 0
+    ∷ handedIn (withS (minus (2 ^ 63)) (withN (2 ^ 48 - 1) plain)) 2
+    -- sq > n·2^30
+    ∷ handedIn (withSq 0 (1000 * 2 ^ 30) plain) 0
+    ∷ handedIn (withSq 0 (1000 * 2 ^ 30 + 1) plain) 2
+    ∷ handedIn (withSq 0 (2 ^ 64 - 1) (withN (2 ^ 34) plain)) 0
+    ∷ handedIn (withSq 1 0 (withN (2 ^ 34) plain)) 0
+    ∷ handedIn (withSq 1 1 (withN (2 ^ 34) plain)) 2
+    ∷ handedIn (withSq 1 0 (withN (2 ^ 34 - 1) plain)) 2
+    ∷ handedIn (withSq (2 ^ 14) 0 (withN (2 ^ 48) plain)) 0
+    ∷ handedIn (withSq (2 ^ 14) 1 (withN (2 ^ 48) plain)) 2
+    -- P or Q > 2^39
+    ∷ handedIn (withP (2 ^ 39) plain) 0
+    ∷ handedIn (withP (2 ^ 39 + 1) plain) 2
+    ∷ handedIn (withQ (2 ^ 39) plain) 0
+    ∷ handedIn (withQ (2 ^ 39 + 1) plain) 2
+    -- an h_j > I: from the middle on, and the last alone
+    ∷ handedIn (withH (replicate 7 0 ++ replicate 8 1600) plain) 0
+    ∷ handedIn (withH (replicate 7 0 ++ replicate 8 1601) plain) 2
+    ∷ handedIn (withH (replicate 14 1600 ++ (1601 ∷ [])) plain) 2
+    -- an a_j > n: the first alone, and up to the middle
+    ∷ handedIn (withA (first 15 1000) plain) 0
+    ∷ handedIn (withA (first 1 1001) plain) 2
+    ∷ handedIn (withA (first 8 1001) plain) 2
+    -- a_j rising with j: at the first pair, and at the last
+    ∷ handedIn (withA (5 ∷ replicate 14 6) plain) 2
+    ∷ handedIn (withA (replicate 14 5 ++ (6 ∷ [])) plain) 2
+    -- h_j falling with j: at the first pair, and at the last
+    ∷ handedIn (withH (6 ∷ replicate 14 5) plain) 2
+    ∷ handedIn (withH (replicate 14 6 ++ (5 ∷ [])) plain) 2
+    -- the refusals of calls
+    ∷ answered (freshAt 1) calls (3 ∷ 4 ∷ 5 ∷ 5 ∷ 6 ∷ 7 ∷ 8 ∷ 8 ∷ 9 ∷ 9 ∷ 10 ∷ 0 ∷ 10 ∷ 0 ∷ [])
+    ∷ answered (withCode 0 plain) (chunk (replicate 4097 (pos 0)) ∷ block threeBytes ∷ []) (2 ∷ 2 ∷ [])
+    ∷ answered (withCode 1 (withN (2 ^ 48) plain)) (chunk (replicate 4097 (pos 0)) ∷ block late ∷ block last ∷ []) (3 ∷ 10 ∷ 11 ∷ [])
+    ∷ answered (withN (2 ^ 48 - 1) plain) (chunk (pos 1 ∷ pos 1 ∷ []) ∷ chunk (pos 1 ∷ []) ∷ chunk (pos 1 ∷ []) ∷ []) (11 ∷ 0 ∷ 11 ∷ [])
+    -- the line host's check
+    ∷ checked good 1 0
+    ∷ checked full 1 0
+    ∷ checked late 1 0
+    ∷ checked zeroSum 1 0
+    ∷ checked good 4 1
+    ∷ checked threeBytes 0 1
+    ∷ checked threeBytes 1 4
+    ∷ checked (good ++ (0 ∷ [])) 1 4
+    ∷ checked wrongSum 1 5
+    ∷ checked wrongWeighted 1 5
+    ∷ checked highSum 1 5
+    ∷ checked otherKind 1 6
+    ∷ checked good 2 7
+    ∷ checked otherCode 1 7
+    ∷ checked otherCode 2 0
+    ∷ checked noCount 1 8
+    ∷ checked highCount 1 8
+    ∷ checked usedNext 1 9
+    ∷ checked usedLast 1 9
     -- Q reaches 2^30 exactly: ≥ against >
     ∷ sampled 1 (pos 9126 ∷ pos 11705 ∷ []) 16052775414 (2 ^ 30) (replicate 5 2 ++ (1 ∷ 1 ∷ replicate 8 0)) 16
     -- two crossings: the lowest is used
@@ -73,4 +183,6 @@ table =
     ∷ counted 1 run (threshold 14) 146
     -- the two steps of demand 3's level clause
     ∷ needsTwo 1 (chunk (replicate 44 (pos 5215) ++ (pos 5243 ∷ pos 5256 ∷ pos 5205 ∷ pos 5187 ∷ [])) ∷ []) 103555
+    -- a D less by one would be too small
+    ∷ needsD 1 (replicate 500 (pos 1) ++ (pos 31417 ∷ [])) 1175933558
     ∷ []
