@@ -17,12 +17,12 @@ use Rattle.meter.specs.Settings.{kOf, iOf}
 use Rattle.meter.specs.Calls.{fresh, zeroMeter, afterSamples, openCall, chunkCall, blockCall, reportCall}
 use Rattle.exact.specs.Exact.{startAt, start, reaches, countNext, hangoverNext, take, takeAll, accepts, samplesOf, fed, exactly}
 use Rattle.exact.specs.Lists.{called, after}
-use Rattle.figures.specs.Blocks.{bytes, twoBytes, blockOf, good, full, zeroSum, highSum, threeBytes, wrongSum, wrongWeighted, otherKind, otherCode, noCount, highCount, usedNext, usedLast, late, last}
+use Rattle.figures.specs.Blocks.{bytes, pairs, blockOf, soundBlock, fullBlock, endBlock, twenty, threeBytes, otherSum, highSum, otherWeighted, otherKind, otherCode, noCount, highCount, usedNext, usedLast}
 use Rattle.figures.specs.Meters.{given}
 use Rattle.figures.specs.Rows.{sampledMeter, meterFrom, exactFrom, numbersOf, levelsOf, valuesOf, All}
-use Rattle.figures.specs.Table.{twenty, run, calls, table}
-use Rattle.figures.proofs.Tests.{same-levels, same-values, testOf, test, allTrue, sound-all}
+use Rattle.figures.specs.Table.{run, faults, table}
+use Rattle.figures.proofs.Rows.{testOf, test, allTrue, sound-table}
 
 pub figures : All table
-unfolding placeUpTo place startOf bit next spell lev levelOf rateOf isNamed rowOf firstOf number kind rateCode count before signed samplesAt samplesIn word sumBelow checkSum weightedSum wrongLength wrongCheck wrongKind wrongRate wrongCount zeros usedUnused blockRules sound hostCheck counted hung smooth rectified threshold listFrom fifteen words freshState kOf iOf fresh zeroMeter afterSamples summed counts hangovers sample samples longTerm activeAt levelOfThreshold excess isCrossing lowestFrom crossing lowerOf activeLevel someBelow unnamedCode unnamedSetting manySamples largeSum largeSquares largeEnvelope longHangover largeCount risingCounts fallingHangovers impossible longChunk wrongPlace tooMany openRules chunkRules blockCallRules levelsAt noLevels crossingIn firstExcess crossingOf firstOfMeter noSamples noSignal noActivity levelBelow levelAbove reportRules noReport reportAt reportFor openCall chunkCall blockCall reportCall startAt start reaches countNext hangoverNext take takeAll accepts samplesOf fed exactly called after given sampledMeter meterFrom exactFrom numbersOf levelsOf valuesOf bytes twoBytes blockOf good full zeroSum highSum threeBytes wrongSum wrongWeighted otherKind otherCode noCount highCount usedNext usedLast late last twenty run calls table same-levels same-values testOf test allTrue
-figures = sound-all table refl
+unfolding placeUpTo place startOf bit next spell lev levelOf rateOf isNamed rowOf firstOf number kind rateCode count before signed samplesAt samplesIn word sumBelow checkSum weightedSum wrongLength wrongCheck wrongKind wrongRate wrongCount zeros usedUnused blockRules sound hostCheck counted hung smooth rectified threshold listFrom fifteen words freshState kOf iOf fresh zeroMeter afterSamples summed counts hangovers sample samples longTerm activeAt levelOfThreshold excess isCrossing lowestFrom crossing lowerOf activeLevel someBelow unnamedCode unnamedSetting manySamples largeSum largeSquares largeEnvelope longHangover largeCount risingCounts fallingHangovers impossible longChunk wrongPlace tooMany openRules chunkRules blockCallRules levelsAt noLevels crossingIn firstExcess crossingOf firstOfMeter noSamples noSignal noActivity levelBelow levelAbove reportRules noReport reportAt reportFor openCall chunkCall blockCall reportCall startAt start reaches countNext hangoverNext take takeAll accepts samplesOf fed exactly called after given sampledMeter meterFrom exactFrom numbersOf levelsOf valuesOf bytes pairs blockOf soundBlock fullBlock endBlock twenty threeBytes otherSum highSum otherWeighted otherKind otherCode noCount highCount usedNext usedLast run faults table testOf test allTrue
+figures = sound-table table refl

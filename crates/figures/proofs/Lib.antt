@@ -1,3 +1,3 @@
-pub mod Equality
 pub mod Figures
+pub mod Rows
 pub mod Tests

@@ -1,95 +1,68 @@
--- The test of a row, and that a row whose test passes holds.
-use mathlib.Core.Bool.{Bool, true, _&&_, and-eq-true-iff}
+-- Tests that compute, each with what it shows where it passes.
+use mathlib.Core.Bool.{Bool, true, false, _&&_, and-eq-true-iff, false≢true}
 use mathlib.Core.List.{List, [], _∷_}
-use mathlib.Core.Option.{none, some}
-use mathlib.Core.Path.{_≡_}
-use Prim.Native.Nat.{_+_, _-_, _*_, _^_}
-use lib.IntN.{pos}
-use lib.ListN.{length}
-use Rattle.level.specs.Logarithm.{levelOf}
-use Rattle.rate.specs.Rates.{rowOf}
-use Rattle.block.specs.Refusals.{hostCheck}
-use Rattle.sample.specs.Envelope.{threshold}
-use Rattle.meter.specs.Calls.{openCall, chunkCall, reportCall}
-use Rattle.exact.specs.Demands.{envelopeAfter, exactEnvelopeAfter, countAt}
-use Rattle.figures.specs.Meters.{settingOf, given}
-use Rattle.figures.specs.Rows.{Levels, Values, Row, level, noLevel, sampled, reported, refused, opened, handedIn, answered, checked, played, counted, needsTwo, needsD, sampledMeter, meterFrom, exactFrom, numbersOf, levelsOf, valuesOf, Holds, All}
-use Rattle.figures.proofs.Equality.{Test, via, _and_, atMost, Equality, number, integer, list, option}
+use mathlib.Core.Option.{Option, none, some}
+use mathlib.Core.Path.{_≡_, refl}
+use Prim.Native.Nat.{ℕ, _≤_}
+use lib.Dec.{eqb, leb}
+use lib.IntN.{ℤ, pos, negsuc}
+use borrow.Author.Tests.{eqb-true, leb-true}
 
--- levels, and values, field by field
-unfoldable pub same-levels : Equality Levels
-same-levels x y =
-    via (λ h i. record { L = h .0 i; A = h .1 .0 i; C = h .1 .1 .0 i; F = h .1 .1 .1 .0 i; lower = h .1 .1 .1 .1 .0 i; upper = h .1 .1 .1 .1 .1 i })
-    (integer (x .L) (y .L)
-    and integer (x .A) (y .A)
-    and integer (x .C) (y .C)
-    and integer (x .F) (y .F)
-    and number (x .lower) (y .lower)
-    and number (x .upper) (y .upper))
+-- a test for P
+pub record Test (P : Type 0) : Type 0 where
+  pub passes : Bool
+  pub shows : passes ≡ true → P
 
-unfoldable pub same-values : Equality Values
-same-values x y =
-    via (λ h i. record {
-      n = h .0 i;
-      s = h .1 .0 i;
-      high = h .1 .1 .0 i;
-      low = h .1 .1 .1 .0 i;
-      P = h .1 .1 .1 .1 .0 i;
-      Q = h .1 .1 .1 .1 .1 .0 i;
-      a = h .1 .1 .1 .1 .1 .1 .0 i;
-      h = h .1 .1 .1 .1 .1 .1 .1 i;
-    })
-    (number (x .n) (y .n)
-    and integer (x .s) (y .s)
-    and number (x .high) (y .high)
-    and number (x .low) (y .low)
-    and number (x .P) (y .P)
-    and number (x .Q) (y .Q)
-    and list number (x .a) (y .a)
-    and list number (x .h) (y .h))
+infixr 3 _and_
+infixl 4 _on_
+-- a test for what follows from P
+abbrev pub via : {P Q : Type 0} → (P → Q) → Test P → Test Q
+via f t = record { passes = t .passes; shows = λ e. f (t .shows e) }
 
--- the test of a row
-unfoldable pub testOf : (r : Row) → Test (Holds r)
-unfolding Holds
-testOf (level N v) = option integer (levelOf N) (some (pos v))
-testOf (noLevel N) = option integer (levelOf N) none
-testOf (sampled code xs P Q a n) =
-    let m = sampledMeter code xs in
-    via (λ h. (h .0, h .1 .0, h .1 .1 .0, h .1 .1 .1))
-    (number (m .state .sums .p) P and number (m .state .sums .q) Q and list number (m .state .a) a and number (reportCall m .number) n)
-testOf (reported n sq a r) =
-    let got = reportCall (given n sq a) in
-    number (got .number) 0 and same-levels (levelsOf (got .report)) r
-testOf (refused n sq a k) = number (reportCall (given n sq a) .number) k
-testOf (opened code k) = number (openCall (settingOf code) .number) k
-testOf (handedIn m k) = number (chunkCall m [] .number) k
-testOf (answered m calls ks) = list number (numbersOf m calls) ks
-testOf (checked bytes code k) = number (hostCheck bytes code) k
-testOf (played code calls v) = same-values (valuesOf (meterFrom code calls)) v
-testOf (counted code calls c u) = number (countAt (exactFrom code calls) c) u
-testOf (needsTwo code calls A) =
-    let r = reportCall (meterFrom code calls) .report in
-    let e = exactFrom code calls in
-    integer (r .levels .active .0) (pos A)
-    and atMost (2 ^ (A + 1) * countAt e (threshold (r .levels .lower)) ^ 4096) (e .sq ^ 4096)
-testOf (needsD code xs Q) =
-    let r = rowOf code in
-    number (envelopeAfter (r .k) (r .i) xs) Q
-    and atMost ((Q + (r .d - 1)) * (2 ^ 20) ^ (length xs + 1)) (exactEnvelopeAfter (r .k) (r .i) xs)
+-- two tests at once
+abbrev pub _and_ : {P Q : Type 0} → Test P → Test Q → Test (P × Q)
+s and t =
+    record {
+      passes = s .passes && t .passes;
+      shows = λ e. let h = and-eq-true-iff (s .passes) (t .passes) .0 e in (s .shows (h .0), t .shows (h .1));
+    }
 
-unfoldable pub test : Row → Bool
-test r = testOf r .passes
+-- what does not hold has a test that never passes
+abbrev pub never : {P : Type 0} → Test P
+never = record { passes = false; shows = λ e. absurd (false≢true e) }
 
-pub sound-test : (r : Row) → test r ≡ true → Holds r
-unfolding test
-sound-test r e = testOf r .shows e
+-- m ≤ n
+abbrev pub atMost : (m n : ℕ) → Test (m ≤ n)
+atMost m n = record { passes = leb m n; shows = leb-true m n }
 
--- every row of a table passes
-unfoldable pub allTrue : (Row → Bool) → List Row → Bool
-allTrue f [] = true
-allTrue f (r ∷ rows) = f r && allTrue f rows
+-- tests of equality: a function is itself, and equal functions on equal arguments are equal
+abbrev pub itself : {A : Type 0} (f : A) → Test (f ≡ f)
+itself f = record { passes = true; shows = λ e. refl }
 
-pub sound-all : (rows : List Row) → allTrue test rows ≡ true → All rows
-unfolding allTrue All
-sound-all [] e = tt
-sound-all (r ∷ rows) e = let h = and-eq-true-iff (test r) (allTrue test rows) .0 e in (sound-test r (h .0), sound-all rows (h .1))
+abbrev pub _on_ : {A B : Type 0} {f g : A → B} {x y : A} → Test (f ≡ g) → Test (x ≡ y) → Test (f x ≡ g y)
+s on t = via (λ h i. h .0 i (h .1 i)) (s and t)
+
+abbrev pub Equality : Type 0 → Type 0
+Equality A = (x y : A) → Test (x ≡ y)
+
+abbrev pub sameNumber : Equality ℕ
+sameNumber m n = record { passes = eqb m n; shows = eqb-true m n }
+
+abbrev pub sameInteger : Equality ℤ
+sameInteger (pos m) (pos n) = itself pos on sameNumber m n
+sameInteger (pos m) (negsuc n) = never
+sameInteger (negsuc m) (pos n) = never
+sameInteger (negsuc m) (negsuc n) = itself negsuc on sameNumber m n
+
+module _ {A : Type 0} (same : Equality A) where
+  abbrev pub sameList : Equality (List A)
+  sameList [] [] = itself []
+  sameList [] (y ∷ ys) = never
+  sameList (x ∷ xs) [] = never
+  sameList (x ∷ xs) (y ∷ ys) = itself _∷_ on same x y on sameList xs ys
+
+  abbrev pub sameOption : Equality (Option A)
+  sameOption none none = itself none
+  sameOption none (some y) = never
+  sameOption (some x) none = never
+  sameOption (some x) (some y) = itself some on same x y

@@ -9,68 +9,73 @@ bytes zero x = []
 bytes (suc size) x = x % 256 ∷ bytes size (x / 256)
 
 -- numbers in two bytes each
-unfoldable pub twoBytes : List ℕ → List ℕ
-twoBytes [] = []
-twoBytes (w ∷ ws) = bytes 2 w ++ twoBytes ws
+unfoldable pub pairs : List ℕ → List ℕ
+pairs [] = []
+pairs (w ∷ ws) = bytes 2 w ++ pairs ws
 
--- a block's kind, rate code, count, number of samples before it, the words from byte 12 on, with zeros after them, and its two check words
+-- the kind, the rate code, the count, the number of samples before, the words from byte 12 on with zeros after them, and the two check words
 unfoldable pub blockOf : (kind code count before : ℕ) (ws : List ℕ) (sum weighted : ℕ) → List ℕ
 blockOf kind code count before ws sum weighted =
     (kind ∷ code ∷ [])
     ++ bytes 2 count
     ++ bytes 8 before
-    ++ twoBytes ws
+    ++ pairs ws
     ++ replicate (496 - 2 * length ws) 0
     ++ bytes 2 sum
     ++ bytes 2 weighted
 
--- a sound block of rate code 1, with none before it and the two samples 32767 and −32768
-unfoldable pub good : List ℕ
-good = blockOf 1 1 2 0 (32767 ∷ 32768 ∷ []) 259 33016
+-- the samples 32767, −32768 and −261
+abbrev three : List ℕ
+three = 32767 ∷ 32768 ∷ 65275 ∷ []
 
--- the most samples that a block holds
-unfoldable pub full : List ℕ
-full = blockOf 1 1 248 0 (replicate 248 1) 753 27828
+-- sound blocks of rate code 1. This one has none before it; its words add up to 2·65535, so that its first check word is 0
+unfoldable pub soundBlock : List ℕ
+soundBlock = blockOf 1 1 3 0 three 0 34844
 
--- a sound block whose first check word is 0, and the same with 65535 in its place
-unfoldable pub zeroSum : List ℕ
-zeroSum = blockOf 1 1 1 0 (65277 ∷ []) 0 1547
+-- as many samples as a block holds
+unfoldable pub fullBlock : List ℕ
+fullBlock = blockOf 1 1 248 0 (replicate 248 1) 753 27828
 
-unfoldable pub highSum : List ℕ
-highSum = blockOf 1 1 1 0 (65277 ∷ []) 65535 1547
+-- one sample with 2^48 before it
+unfoldable pub endBlock : List ℕ
+endBlock = blockOf 1 1 1 (2 ^ 48) (1 ∷ []) 260 493
 
--- blocks with one fault each: three bytes alone; either check word; the kind; the rate code; a count below and one above the range; an unused byte
--- after the samples, and byte 507; the number of samples before. Where the fault is not in the check words, they are right
+-- twenty samples −32768 with 40 before them
+unfoldable pub twenty : List ℕ
+twenty = blockOf 1 1 20 40 (replicate 20 32768) 327 17268
+
+-- Faults. 4: three bytes
 unfoldable pub threeBytes : List ℕ
 threeBytes = 1 ∷ 1 ∷ 1 ∷ []
 
-unfoldable pub wrongSum : List ℕ
-wrongSum = blockOf 1 1 2 0 (32767 ∷ 32768 ∷ []) 260 33016
+-- 5: the first check word is another, or 65535 for 0; or the second is another. In all the others both are right
+unfoldable pub otherSum : List ℕ
+otherSum = blockOf 1 1 3 0 three 1 34844
 
-unfoldable pub wrongWeighted : List ℕ
-wrongWeighted = blockOf 1 1 2 0 (32767 ∷ 32768 ∷ []) 259 33017
+unfoldable pub highSum : List ℕ
+highSum = blockOf 1 1 3 0 three 65535 34844
 
+unfoldable pub otherWeighted : List ℕ
+otherWeighted = blockOf 1 1 3 0 three 0 34845
+
+-- 6: kind 2
 unfoldable pub otherKind : List ℕ
-otherKind = blockOf 2 1 2 0 (32767 ∷ 32768 ∷ []) 260 33270
+otherKind = blockOf 2 1 3 0 three 1 35098
 
+-- 7 at code 1, and sound: rate code 2
 unfoldable pub otherCode : List ℕ
-otherCode = blockOf 1 2 2 0 (32767 ∷ 32768 ∷ []) 515 32505
+otherCode = blockOf 1 2 3 0 three 256 34333
 
+-- 8: no samples, or one more than a block holds
 unfoldable pub noCount : List ℕ
 noCount = blockOf 1 1 0 0 [] 257 65278
 
 unfoldable pub highCount : List ℕ
 highCount = blockOf 1 1 249 0 (replicate 248 1) 754 28081
 
+-- 9: a sample more than the count says, or byte 507
 unfoldable pub usedNext : List ℕ
-usedNext = blockOf 1 1 1 0 (32767 ∷ 32768 ∷ []) 258 32763
+usedNext = blockOf 1 1 2 0 three 65534 34591
 
 unfoldable pub usedLast : List ℕ
 usedLast = blockOf 1 1 1 0 ((32767 ∷ replicate 246 0) ++ (256 ∷ [])) 33281 128
-
-unfoldable pub late : List ℕ
-late = blockOf 1 1 2 1 (32767 ∷ 32768 ∷ []) 260 33268
-
--- a sound block of one sample with 2^48 before it
-unfoldable pub last : List ℕ
-last = blockOf 1 1 1 (2 ^ 48) (1 ∷ []) 260 493

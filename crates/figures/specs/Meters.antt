@@ -25,18 +25,18 @@ given n sq a =
       state = record { sums = record { n = n; s = pos 0; sq = words sq; p = 0; q = 0 }; a = a; h = replicate 15 0 };
     }
 
--- a meter of code 2 that could be anyone's: 1000 samples, all else zero
+-- a meter at code 2 after 1000 samples, all else zero: refusal 2 lets it pass
 abbrev pub plain : Meter
 plain = given 1000 0 (replicate 15 0)
 
--- a meter with one of its fields changed
+-- a meter with one of its fields another
 abbrev pub withCode : ℕ → Meter → Meter
 withCode code m = record { setting = settingOf code; state = m .state }
 
-abbrev pub withState : State → Meter → Meter
+abbrev withState : State → Meter → Meter
 withState x m = record { setting = m .setting; state = x }
 
-abbrev pub withSums : Sums → Meter → Meter
+abbrev withSums : Sums → Meter → Meter
 withSums x m = withState (record { sums = x; a = m .state .a; h = m .state .h }) m
 
 abbrev pub withN : ℕ → Meter → Meter

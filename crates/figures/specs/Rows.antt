@@ -50,9 +50,9 @@ pub data Row : Type 0 where
   refused : (n sq : ℕ) (a : List ℕ) (number : ℕ) → Row
   -- opening with a code is answered with number
   opened : (code number : ℕ) → Row
-  -- a meter handed in with an empty chunk is answered with number
+  -- a meter handed in, whole, with an empty chunk is answered with number
   handedIn : Meter → (number : ℕ) → Row
-  -- calls, the first on this meter, are answered with these numbers in turn
+  -- calls in turn, the first on this meter, are answered with these numbers, 0 where accepted
   answered : Meter → List Call → (numbers : List ℕ) → Row
   -- the line host hands over bytes and a code, and is answered with number
   checked : (bytes : List ℕ) (code number : ℕ) → Row
@@ -75,7 +75,7 @@ meterFrom code calls = meterAfter code calls
 unfoldable pub exactFrom : ℕ → List Call → E
 exactFrom code calls = exactAfter code calls
 
--- the numbers that calls get in turn: each is given what the one before handed back
+-- the numbers of calls in turn: each is given what the one before handed back
 unfoldable pub numbersOf : Meter → List Call → List ℕ
 numbersOf m [] = []
 numbersOf m (call ∷ calls) = let got = called m call in got .number ∷ numbersOf (got .meter) calls

@@ -6,7 +6,7 @@ use lib.ListN.{replicate}
 use Rattle.sample.specs.Envelope.{threshold}
 use Rattle.meter.specs.Calls.{openCall}
 use Rattle.exact.specs.Lists.{Call, chunk, block}
-use Rattle.figures.specs.Blocks.{blockOf, good, full, zeroSum, highSum, threeBytes, wrongSum, wrongWeighted, otherKind, otherCode, noCount, highCount, usedNext, usedLast, late, last}
+use Rattle.figures.specs.Blocks.{soundBlock, fullBlock, endBlock, twenty, threeBytes, otherSum, highSum, otherWeighted, otherKind, otherCode, noCount, highCount, usedNext, usedLast}
 use Rattle.figures.specs.Meters.{settingOf, freshAt, plain, withCode, withN, withS, withSq, withP, withQ, withA, withH}
 use Rattle.figures.specs.Rows.{Row, level, noLevel, sampled, reported, refused, opened, handedIn, answered, checked, played, counted, needsTwo, needsD}
 
@@ -18,10 +18,6 @@ first k x = replicate k x ++ replicate (15 - k) 0
 abbrev minus : ℕ → ℤ
 minus x = negsuc (x - 1)
 
--- a block at code 1 with 40 samples before it, of twenty samples −32768
-unfoldable pub twenty : List ℕ
-twenty = blockOf 1 1 20 40 (replicate 20 32768) 327 17268
-
 -- 260 samples at code 1: loud ones, a refused block of three bytes, that block, and near silence in which hangovers run out
 unfoldable pub run : List Call
 run =
@@ -31,22 +27,23 @@ run =
     ∷ chunk (replicate 170 (pos 0) ++ replicate 30 (pos 300))
     ∷ []
 
--- every refusal of a call on a meter that 2 lets pass, but 11; among them two blocks and a chunk that are accepted
-unfoldable pub calls : List Call
-calls =
+-- calls to a fresh meter of code 1: the faults from 3 to 10, then a sound block, the same once more, and the longest chunk
+unfoldable pub faults : List Call
+faults =
     chunk (replicate 4097 (pos 0))
     ∷ block threeBytes
-    ∷ block wrongSum
-    ∷ block wrongWeighted
+    ∷ block otherSum
+    ∷ block highSum
+    ∷ block otherWeighted
     ∷ block otherKind
     ∷ block otherCode
     ∷ block noCount
     ∷ block highCount
     ∷ block usedNext
     ∷ block usedLast
-    ∷ block late
-    ∷ block good
-    ∷ block good
+    ∷ block endBlock
+    ∷ block soundBlock
+    ∷ block soundBlock
     ∷ chunk (replicate 4096 (pos 0))
     ∷ []
 
@@ -66,7 +63,7 @@ table =
     ∷ reported 16384 (2 ^ 30) (replicate 7 4096 ++ (2048 ∷ replicate 7 0)) (record { L = pos 65536; A = pos 76669; C = pos 55034; F = minus 11133; lower = 6; upper = 7 })
     ∷ reported 32768 1275068 (first 1 32768) (record { L = pos 21635; A = pos 21635; C = pos 0; F = pos 0; lower = 0; upper = 0 })
     ∷ refused 32768 (2 ^ 20) (first 1 32768) 15
-    -- document 01's rows that are executed
+    -- document 01's rows without a P
     ∷ answered (withN (2 ^ 48) plain) (chunk (pos 1 ∷ []) ∷ chunk [] ∷ []) (11 ∷ 0 ∷ [])
     ∷ answered (freshAt 2) (chunk (replicate 4097 (pos 0)) ∷ chunk (replicate 4096 (pos 0)) ∷ []) (3 ∷ 0 ∷ [])
     -- the ends of lev's range, and past them
@@ -120,10 +117,14 @@ table =
     ∷ handedIn (withP (2 ^ 39 + 1) plain) 2
     ∷ handedIn (withQ (2 ^ 39) plain) 0
     ∷ handedIn (withQ (2 ^ 39 + 1) plain) 2
-    -- an h_j > I: from the middle on, and the last alone
+    -- an h_j > I: from the middle on, the last alone, and at the other rates
     ∷ handedIn (withH (replicate 7 0 ++ replicate 8 1600) plain) 0
     ∷ handedIn (withH (replicate 7 0 ++ replicate 8 1601) plain) 2
     ∷ handedIn (withH (replicate 14 1600 ++ (1601 ∷ [])) plain) 2
+    ∷ handedIn (withH (replicate 15 139) (withCode 1 plain)) 0
+    ∷ handedIn (withH (replicate 14 139 ++ (140 ∷ [])) (withCode 1 plain)) 2
+    ∷ handedIn (withH (replicate 15 3200) (withCode 3 plain)) 0
+    ∷ handedIn (withH (replicate 14 3200 ++ (3201 ∷ [])) (withCode 3 plain)) 2
     -- an a_j > n: the first alone, and up to the middle
     ∷ handedIn (withA (first 15 1000) plain) 0
     ∷ handedIn (withA (first 1 1001) plain) 2
@@ -135,26 +136,24 @@ table =
     ∷ handedIn (withH (6 ∷ replicate 14 5) plain) 2
     ∷ handedIn (withH (replicate 14 6 ++ (5 ∷ [])) plain) 2
     -- the refusals of calls
-    ∷ answered (freshAt 1) calls (3 ∷ 4 ∷ 5 ∷ 5 ∷ 6 ∷ 7 ∷ 8 ∷ 8 ∷ 9 ∷ 9 ∷ 10 ∷ 0 ∷ 10 ∷ 0 ∷ [])
+    ∷ answered (freshAt 1) faults (3 ∷ 4 ∷ 5 ∷ 5 ∷ 5 ∷ 6 ∷ 7 ∷ 8 ∷ 8 ∷ 9 ∷ 9 ∷ 10 ∷ 0 ∷ 10 ∷ 0 ∷ [])
     ∷ answered (withCode 0 plain) (chunk (replicate 4097 (pos 0)) ∷ block threeBytes ∷ []) (2 ∷ 2 ∷ [])
-    ∷ answered (withCode 1 (withN (2 ^ 48) plain)) (chunk (replicate 4097 (pos 0)) ∷ block late ∷ block last ∷ []) (3 ∷ 10 ∷ 11 ∷ [])
     ∷ answered (withN (2 ^ 48 - 1) plain) (chunk (pos 1 ∷ pos 1 ∷ []) ∷ chunk (pos 1 ∷ []) ∷ chunk (pos 1 ∷ []) ∷ []) (11 ∷ 0 ∷ 11 ∷ [])
+    ∷ answered (withCode 1 (withN (2 ^ 48) plain)) (chunk (replicate 4097 (pos 0)) ∷ block soundBlock ∷ block endBlock ∷ []) (3 ∷ 10 ∷ 11 ∷ [])
     -- the line host's check
-    ∷ checked good 1 0
-    ∷ checked full 1 0
-    ∷ checked late 1 0
-    ∷ checked zeroSum 1 0
-    ∷ checked good 4 1
+    ∷ checked soundBlock 1 0
+    ∷ checked fullBlock 1 0
+    ∷ checked endBlock 1 0
+    ∷ checked otherCode 2 0
+    ∷ checked soundBlock 4 1
     ∷ checked threeBytes 0 1
     ∷ checked threeBytes 1 4
-    ∷ checked (good ++ (0 ∷ [])) 1 4
-    ∷ checked wrongSum 1 5
-    ∷ checked wrongWeighted 1 5
+    ∷ checked otherSum 1 5
     ∷ checked highSum 1 5
+    ∷ checked otherWeighted 1 5
     ∷ checked otherKind 1 6
-    ∷ checked good 2 7
     ∷ checked otherCode 1 7
-    ∷ checked otherCode 2 0
+    ∷ checked soundBlock 2 7
     ∷ checked noCount 1 8
     ∷ checked highCount 1 8
     ∷ checked usedNext 1 9
@@ -183,6 +182,6 @@ table =
     ∷ counted 1 run (threshold 14) 146
     -- the two steps of demand 3's level clause
     ∷ needsTwo 1 (chunk (replicate 44 (pos 5215) ++ (pos 5243 ∷ pos 5256 ∷ pos 5205 ∷ pos 5187 ∷ [])) ∷ []) 103555
-    -- a D less by one would be too small
+    -- D less one is too small
     ∷ needsD 1 (replicate 500 (pos 1) ++ (pos 31417 ∷ [])) 1175933558
     ∷ []

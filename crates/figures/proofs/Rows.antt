@@ -1,0 +1,97 @@
+-- The test of a row, and that a row whose test passes holds.
+use mathlib.Core.Bool.{Bool, true, _&&_, and-eq-true-iff}
+use mathlib.Core.List.{List, [], _∷_}
+use mathlib.Core.Option.{none, some}
+use mathlib.Core.Path.{_≡_}
+use Prim.Native.Nat.{ℕ, _+_, _-_, _*_, _^_}
+use lib.IntN.{ℤ, pos}
+use lib.ListN.{length}
+use Rattle.level.specs.Logarithm.{levelOf}
+use Rattle.rate.specs.Rates.{rowOf}
+use Rattle.block.specs.Refusals.{hostCheck}
+use Rattle.sample.specs.Envelope.{threshold}
+use Rattle.meter.specs.Calls.{openCall, chunkCall, reportCall}
+use Rattle.exact.specs.Demands.{envelopeAfter, exactEnvelopeAfter, countAt}
+use Rattle.figures.specs.Meters.{settingOf, given}
+use Rattle.figures.specs.Rows.{Levels, Values, Row, level, noLevel, sampled, reported, refused, opened, handedIn, answered, checked, played, counted, needsTwo, needsD, sampledMeter, meterFrom, exactFrom, numbersOf, levelsOf, valuesOf, Holds, All}
+use Rattle.figures.proofs.Tests.{Test, via, _and_, atMost, itself, _on_, Equality, sameNumber, sameInteger, sameList, sameOption}
+
+-- levels, and values, by their fields
+abbrev levels : (L A C F : ℤ) (lower upper : ℕ) → Levels
+levels L A C F lower upper = record { L = L; A = A; C = C; F = F; lower = lower; upper = upper }
+
+abbrev pub sameLevels : Equality Levels
+sameLevels x y =
+    itself levels
+    on sameInteger (x .L) (y .L)
+    on sameInteger (x .A) (y .A)
+    on sameInteger (x .C) (y .C)
+    on sameInteger (x .F) (y .F)
+    on sameNumber (x .lower) (y .lower)
+    on sameNumber (x .upper) (y .upper)
+
+abbrev values : (n : ℕ) (s : ℤ) (high low P Q : ℕ) (a h : List ℕ) → Values
+values n s high low P Q a h = record { n = n; s = s; high = high; low = low; P = P; Q = Q; a = a; h = h }
+
+abbrev pub sameValues : Equality Values
+sameValues x y =
+    itself values
+    on sameNumber (x .n) (y .n)
+    on sameInteger (x .s) (y .s)
+    on sameNumber (x .high) (y .high)
+    on sameNumber (x .low) (y .low)
+    on sameNumber (x .P) (y .P)
+    on sameNumber (x .Q) (y .Q)
+    on sameList sameNumber (x .a) (y .a)
+    on sameList sameNumber (x .h) (y .h)
+
+-- the test of what a row says
+unfoldable pub testOf : (r : Row) → Test (Holds r)
+unfolding Holds
+testOf (level N v) = sameOption sameInteger (levelOf N) (some (pos v))
+testOf (noLevel N) = sameOption sameInteger (levelOf N) none
+testOf (sampled code xs P Q a number) =
+    let m = sampledMeter code xs in
+    via (λ h. (h .0, h .1 .0, h .1 .1 .0, h .1 .1 .1))
+    (sameNumber (m .state .sums .p) P
+    and sameNumber (m .state .sums .q) Q
+    and sameList sameNumber (m .state .a) a
+    and sameNumber (reportCall m .number) number)
+testOf (reported n sq a r) =
+    let got = reportCall (given n sq a) in
+    sameNumber (got .number) 0 and sameLevels (levelsOf (got .report)) r
+testOf (refused n sq a number) = sameNumber (reportCall (given n sq a) .number) number
+testOf (opened code number) = sameNumber (openCall (settingOf code) .number) number
+testOf (handedIn m number) = sameNumber (chunkCall m [] .number) number
+testOf (answered m calls numbers) = sameList sameNumber (numbersOf m calls) numbers
+testOf (checked bytes code number) = sameNumber (hostCheck bytes code) number
+testOf (played code calls v) = sameValues (valuesOf (meterFrom code calls)) v
+testOf (counted code calls c u) = sameNumber (countAt (exactFrom code calls) c) u
+testOf (needsTwo code calls A) =
+    let r = reportCall (meterFrom code calls) .report in
+    let e = exactFrom code calls in
+    sameInteger (r .levels .active .0) (pos A)
+    and atMost (2 ^ (A + 1) * countAt e (threshold (r .levels .lower)) ^ 4096) (e .sq ^ 4096)
+testOf (needsD code xs Q) =
+    let r = rowOf code in
+    sameNumber (envelopeAfter (r .k) (r .i) xs) Q
+    and atMost ((Q + (r .d - 1)) * (2 ^ 20) ^ (length xs + 1)) (exactEnvelopeAfter (r .k) (r .i) xs)
+
+unfoldable pub test : Row → Bool
+test r = testOf r .passes
+
+pub sound-test : (r : Row) → test r ≡ true → Holds r
+unfolding test
+sound-test r e = testOf r .shows e
+
+-- whether all rows of a table pass a test
+unfoldable pub allTrue : (Row → Bool) → List Row → Bool
+allTrue f [] = true
+allTrue f (r ∷ rows) = f r && allTrue f rows
+
+pub sound-table : (rows : List Row) → allTrue test rows ≡ true → All rows
+unfolding allTrue All
+sound-table [] e = tt
+sound-table (r ∷ rows) e =
+    let h = and-eq-true-iff (test r) (allTrue test rows) .0 e in
+    (sound-test r (h .0), sound-table rows (h .1))
