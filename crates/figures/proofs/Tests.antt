@@ -28,7 +28,7 @@ s and t =
     }
 
 -- what does not hold has a test that never passes
-abbrev pub never : {P : Type 0} → Test P
+abbrev never : {P : Type 0} → Test P
 never = record { passes = false; shows = λ e. absurd (false≢true e) }
 
 -- m ≤ n
