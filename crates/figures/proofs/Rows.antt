@@ -11,7 +11,8 @@ use Rattle.rate.specs.Rates.{rowOf}
 use Rattle.block.specs.Refusals.{hostCheck}
 use Rattle.sample.specs.Envelope.{threshold}
 use Rattle.meter.specs.Calls.{openCall, chunkCall, reportCall}
-use Rattle.exact.specs.Demands.{envelopeAfter, exactEnvelopeAfter, countAt}
+use Rattle.exact.specs.Demands.{countAt}
+use Rattle.exact.specs.Envelope.{envelopeAfter, exactEnvelopeAfter}
 use Rattle.figures.specs.Meters.{settingOf, given}
 use Rattle.figures.specs.Rows.{Levels, Values, Row, level, noLevel, sampled, reported, refused, opened, handedIn, answered, checked, played, counted, needsTwo, needsD, sampledMeter, meterFrom, exactFrom, numbersOf, levelsOf, valuesOf, Holds, All}
 use Rattle.figures.proofs.Tests.{Test, via, _and_, atMost, itself, _on_, Equality, sameNumber, sameInteger, sameList, sameOption}

@@ -7,7 +7,7 @@ use Rattle.sample.specs.declared.State.{State}
 use Rattle.sample.specs.declared.Sums.{Sums}
 use Rattle.sample.specs.Sample.{words}
 use Rattle.meter.specs.declared.Meter.{Meter}
-use Rattle.meter.specs.declared.Setting.{Setting}
+use Rattle.setting.specs.declared.Setting.{Setting}
 use Rattle.meter.specs.Calls.{fresh}
 
 -- the setting of a code, and the fresh meter of one

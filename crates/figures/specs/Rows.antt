@@ -12,9 +12,11 @@ use Rattle.sample.specs.Envelope.{threshold}
 use Rattle.meter.specs.declared.Meter.{Meter}
 use Rattle.meter.specs.declared.Report.{Report}
 use Rattle.meter.specs.Calls.{afterSamples, openCall, chunkCall, reportCall}
-use Rattle.exact.specs.Demands.{envelopeAfter, exactEnvelopeAfter, meterAfter, exactAfter, countAt}
+use Rattle.exact.specs.Calls.{Call}
+use Rattle.exact.specs.Demands.{meterAfter, exactAfter, countAt}
+use Rattle.exact.specs.Envelope.{envelopeAfter, exactEnvelopeAfter}
 use Rattle.exact.specs.Exact.{E}
-use Rattle.exact.specs.Lists.{Call, called}
+use Rattle.exact.specs.Lists.{called}
 use Rattle.figures.specs.Meters.{settingOf, freshAt, given}
 
 -- the levels of a report
@@ -70,10 +72,10 @@ sampledMeter code xs = afterSamples (freshAt code) xs
 
 -- the meter, and E, after calls from a fresh start at a code
 unfoldable pub meterFrom : ℕ → List Call → Meter
-meterFrom code calls = meterAfter code calls
+meterFrom code calls = meterAfter (settingOf code) calls
 
 unfoldable pub exactFrom : ℕ → List Call → E
-exactFrom code calls = exactAfter code calls
+exactFrom code calls = exactAfter (settingOf code) calls
 
 -- the numbers of calls in turn: each is given what the one before handed back
 unfoldable pub numbersOf : Meter → List Call → List ℕ

@@ -5,7 +5,7 @@ use lib.IntN.{ℤ, pos, negsuc}
 use lib.ListN.{replicate}
 use Rattle.sample.specs.Envelope.{threshold}
 use Rattle.meter.specs.Calls.{openCall}
-use Rattle.exact.specs.Lists.{Call, chunk, block}
+use Rattle.exact.specs.Calls.{Call, chunk, block}
 use Rattle.figures.specs.Blocks.{soundBlock, fullBlock, endBlock, twenty, threeBytes, otherSum, highSum, otherWeighted, otherKind, otherCode, noCount, highCount, usedNext, usedLast}
 use Rattle.figures.specs.Meters.{settingOf, freshAt, plain, withCode, withN, withS, withSq, withP, withQ, withA, withH}
 use Rattle.figures.specs.Rows.{Row, level, noLevel, sampled, reported, refused, opened, handedIn, answered, checked, played, counted, needsTwo, needsD}
