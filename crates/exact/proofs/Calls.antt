@@ -20,7 +20,7 @@ use Rattle.block.specs.Refusals.{wrongRate, blockRules, sound}
 use Rattle.block.proofs.Laws.{sound-is, is-sound, signed-fits, samples-at-length}
 use Rattle.sample.specs.Sample.{freshState, samples}
 use Rattle.meter.specs.declared.Meter.{Meter}
-use Rattle.meter.specs.Refusals.{unnamedCode, impossible, longChunk, wrongPlace, tooMany, openRules, chunkRules, blockCallRules}
+use Rattle.meter.specs.Refusals.{unnamedCode, longChunk, wrongPlace, tooMany, openRules, chunkRules, blockCallRules}
 use Rattle.meter.specs.Calls.{fresh, afterSamples, openCall, chunkCall, blockCall}
 use Rattle.meter.proofs.Laws.{open-given, chunk-given, block-given, opened}
 use Rattle.meter.proofs.Possible.{Possible, passes}
@@ -79,10 +79,10 @@ module _ (m : Meter) (e : E) (g : Good m e) where
   unfolding NoneApplies blockCallRules blockRules accepts wrongRate wrongPlace tooMany
   block-agree b = (
     λ n. let n4 = n .1 in
-    let n7 = n4 .1 .1 .1 in
-    let n10 = n7 .1 .1 .1 in
-    let rate : rateCode b ≡ e .code = eqb-true _ _ (not-false _ (n7 .0)) ∙ g .code in
-    let fits = is-sound b
+        let n7 = n4 .1 .1 .1 in
+        let n10 = n7 .1 .1 .1 in
+        let rate : rateCode b ≡ e .code = eqb-true _ _ (not-false _ (n7 .0)) ∙ g .code in
+        let fits = is-sound b
         (record {
           length-ok = n4 .0;
           check-ok = n4 .1 .0;
@@ -91,27 +91,42 @@ module _ (m : Meter) (e : E) (g : Good m e) where
           unused-ok = n7 .1 .1 .0;
           named = ap isNamed rate ∙ g .named;
         }) in
-    simp
-    (fits,
-    eq-eqb _ _ rate,
-    eq-eqb (before b) (e .y) (eqb-true _ _ (not-false _ (n10 .0)) ∙ g .tied .taken),
-    le-leb (e .y + count b) (2 ^ 48) (omega (arith, ltb-false (2 ^ 48) (m .state .sums .n + count b) (n10 .1 .0), g .tied .taken))),
+        simp (
+          fits,
+          eq-eqb _ _ rate,
+          eq-eqb (before b) (e .y) (eqb-true _ _ (not-false _ (n10 .0)) ∙ g .tied .taken),
+          le-leb (e .y + count b) (2 ^ 48) (omega (arith, ltb-false (2 ^ 48) (m .state .sums .n + count b) (n10 .1 .0), g .tied .taken)),
+        ),
     λ h. let h4 = both (sound b && eqb (rateCode b) (e .code) && eqb (before b) (e .y)) _ h in
-    let h3 = both (sound b && eqb (rateCode b) (e .code)) _ (h4 .0) in
-    let h2 = both (sound b) _ (h3 .0) in
-    let s = sound-is b (h2 .0) in
-    let rate = eq-eqb (rateCode b) (m .setting .code) (eqb-true _ _ (h2 .1) ∙ sym (g .code)) in
-    let place = eq-eqb (before b) (m .state .sums .n) (eqb-true _ _ (h3 .1) ∙ sym (g .tied .taken)) in (
-      passes m good-possible,
-      (s .length-ok,
-      (s .check-ok,
-      (s .kind-ok,
-      (ap not rate,
-      (s .count-ok,
-      (s .unused-ok,
-      (ap not place,
-      (le-ltb (2 ^ 48) (m .state .sums .n + count b) (omega (arith, leb-true (e .y + count b) (2 ^ 48) (h4 .1), g .tied .taken)), tt)))))))),
-    ),
+        let h3 = both (sound b && eqb (rateCode b) (e .code)) _ (h4 .0) in
+        let h2 = both (sound b) _ (h3 .0) in
+        let s = sound-is b (h2 .0) in
+        let rate = eq-eqb (rateCode b) (m .setting .code) (eqb-true _ _ (h2 .1) ∙ sym (g .code)) in
+        let place = eq-eqb (before b) (m .state .sums .n) (eqb-true _ _ (h3 .1) ∙ sym (g .tied .taken)) in (
+          passes m good-possible,
+          (
+            s .length-ok,
+            (
+              s .check-ok,
+              (
+                s .kind-ok,
+                (
+                  ap not rate,
+                  (
+                    s .count-ok,
+                    (
+                      s .unused-ok,
+                      (
+                        ap not place,
+                        (le-ltb (2 ^ 48) (m .state .sums .n + count b) (omega (arith, leb-true (e .y + count b) (2 ^ 48) (h4 .1), g .tied .taken)), tt),
+                      ),
+                    ),
+                  ),
+                ),
+              ),
+            ),
+          ),
+        ),
   )
 
   -- a number is 0 exactly where a test holds

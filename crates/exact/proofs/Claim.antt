@@ -1,13 +1,8 @@
 -- The whole claim: `claim`. Each clause is a theorem of its own, of the meter's crate or of this one.
-use mathlib.Core.Bool.{true}
-use mathlib.Core.Path.{_≡_, sym, ap, _∙_, subst}
-use lib.IntN.{ℤ}
+use mathlib.Core.Path.{sym, subst}
 use Rattle.refusal.specs.First.{NoneApplies}
-use Rattle.rate.proofs.Laws.{zero-unnamed}
-use Rattle.setting.specs.declared.Setting.{Setting}
 use Rattle.block.proofs.Laws.{host-given}
-use Rattle.meter.specs.declared.Meter.{Meter}
-use Rattle.meter.specs.Opened.{Fresh, Zeros}
+use Rattle.meter.specs.Opened.{Fresh}
 use Rattle.meter.specs.Reports.{reportRules}
 use Rattle.meter.proofs.Laws.{open-given, chunk-given, block-given, report-given, refused-chunk, refused-block, report-meter, refused-open, zeros-chunk, zeros-block, zeros-report, opened, fresh-fields, factor-never-above, block-taken, block-samples, empty-chunk}
 use Rattle.meter.proofs.Outcome.{answered}

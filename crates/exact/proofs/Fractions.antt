@@ -1,6 +1,6 @@
 -- E's numerators stand for fractions that obey document 01's recurrence: the denominators grow by 2^20 with each sample, and what is left is ring
 -- arithmetic.
-use mathlib.Core.Path.{_≡_, refl, sym, ap, _∙_}
+use mathlib.Core.Path.{_≡_, ap, _∙_}
 use Prim.Native.Nat.{ℕ, _+_, _-_, _*_, _^_}
 use native.Mathlib.Omega.{arith}
 use lib.IntN.{ℤ, natAbs}

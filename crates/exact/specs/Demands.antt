@@ -1,6 +1,6 @@
 -- The whole claim: the customer's three demands, each a record with a field for each clause of its sentence, and `Claim`, that all three hold. What
 -- only the check of the code can show stands as a comment that names the contracts.
-use mathlib.Core.Bool.{Bool, true, false}
+use mathlib.Core.Bool.{Bool, false}
 use mathlib.Core.List.{List, [], _∷_}
 use mathlib.Core.Logic.{_↔_}
 use mathlib.Core.Path.{_≡_}
@@ -19,7 +19,7 @@ use Rattle.sample.specs.Sample.{freshState, samples}
 use Rattle.meter.specs.declared.Meter.{Meter}
 use Rattle.meter.specs.declared.Report.{Report}
 use Rattle.meter.specs.Answered.{Answered}
-use Rattle.meter.specs.Calls.{Handed, HandedReport, afterSamples, openCall, chunkCall, blockCall, reportCall}
+use Rattle.meter.specs.Calls.{HandedReport, afterSamples, openCall, chunkCall, blockCall, reportCall}
 use Rattle.meter.specs.Opened.{Fresh, Zeros}
 use Rattle.meter.specs.Refusals.{impossible, openRules, chunkRules, blockCallRules}
 use Rattle.meter.specs.Reports.{reportRules}

@@ -4,9 +4,9 @@ ghost use mathlib.Core.Path.{_≡_};
 ghost use lib.ListN.{length};
 use level::Squares;
 use meter::Meter;
-use setting::Setting;
 use sample::State;
 use sample::Sums;
+use setting::Setting;
 
 fn main() {
     full();

@@ -8,7 +8,7 @@ use lib.IntN.{pos}
 use lib.Signed.{ltZ}
 use Rattle.level.specs.Logarithm.{number}
 use Rattle.crossing.specs.declared.Found.{Found}
-use Rattle.crossing.specs.Found.{Searched, noLevels, said, searched, levelsFor, firstExcess}
+use Rattle.crossing.specs.Found.{Searched, noLevels, said, searched, levelsFor}
 use Rattle.meter.specs.declared.Meter.{Meter}
 use Rattle.meter.specs.Calls.{HandedReport, reportCall}
 use Rattle.meter.specs.Inner.{unreported, reportedWith}

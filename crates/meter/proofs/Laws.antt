@@ -10,12 +10,12 @@ use native.Mathlib.Omega.{arith}
 use borrow.Author.Tests.{ne-eqb, le-ltb}
 use lib.Dec.{eqb, ltb, lit≤}
 use lib.IntN.{ℤ, pos, _-ℤ_}
-use lib.ListN.{length, getD}
+use lib.ListN.{getD}
 use lib.Signed.{ltZ}
 use Rattle.level.specs.Logarithm.{number, lev, levelOf}
 use Rattle.level.proofs.Laws.{level-exists}
 use Rattle.rate.proofs.Laws.{zero-unnamed}
-use Rattle.refusal.specs.First.{Rule, firstOf, NoneApplies, rising, Given, Lowest}
+use Rattle.refusal.specs.First.{NoneApplies, rising, Given, Lowest}
 use Rattle.refusal.proofs.Laws.{here, past, none, given-lowest}
 use Rattle.block.specs.Block.{samples}
 use Rattle.block.specs.Refusals.{blockRules}
@@ -23,11 +23,10 @@ use Rattle.sample.specs.Sample.{listFrom, fifteen, words, freshState, samples a
 use Rattle.crossing.specs.Found.{margin}
 use Rattle.crossing.proofs.Bounds.{Crossed, crossed, factor}
 use Rattle.setting.specs.declared.Setting.{Setting}
-use Rattle.setting.specs.Settings.{iOf}
 use Rattle.meter.specs.declared.Meter.{Meter}
 use Rattle.meter.specs.declared.Report.{Report}
 use Rattle.meter.specs.Answered.{CrossingAt, Used, ReportAt, Answered, no-samples, no-signal, no-activity, level-below, level-above, levels}
-use Rattle.meter.specs.Calls.{Handed, fresh, zeroMeter, afterSamples, openCall, chunkCall, blockCall, reportCall}
+use Rattle.meter.specs.Calls.{fresh, zeroMeter, afterSamples, openCall, chunkCall, blockCall, reportCall}
 use Rattle.meter.specs.Opened.{Fresh, Zeros}
 use Rattle.meter.specs.Refusals.{unnamedCode, unnamedSetting, impossible, longChunk, tooMany, openRules, chunkRules, blockCallRules}
 use Rattle.meter.specs.Reports.{reportRules}
@@ -51,7 +50,6 @@ block-given m b = given-lowest (blockCallRules m b) refl
 pub report-given : (m : Meter) → Given (reportRules m) (reportCall m .number) × Lowest (reportRules m) (reportCall m .number)
 unfolding reportCall reportRules rising
 report-given m = given-lowest (reportRules m) refl
-
 
 -- ---- what is handed back
 

@@ -16,13 +16,11 @@ use Rattle.level.specs.Logarithm.{number}
 use Rattle.refusal.specs.First.{firstOf}
 use Rattle.refusal.proofs.Laws.{here, past, none as no-rule}
 use Rattle.sample.specs.Sample.{listFrom, fifteen, words}
-use Rattle.crossing.specs.declared.Levels.{Levels}
 use Rattle.crossing.specs.Levels.{excess}
 use Rattle.crossing.specs.Crossing.{isZero, isCrossing, crossing}
 use Rattle.crossing.specs.Found.{margin, levelsAt, noLevels, crossingIn, firstExcess}
 use Rattle.crossing.proofs.Searching.{found, not-found}
 use Rattle.meter.specs.declared.Meter.{Meter}
-use Rattle.meter.specs.declared.Report.{Report}
 use Rattle.meter.specs.Answered.{powerOf, CrossingAt, Used, ReportAt, AllZero, Active, Answered, no-samples, no-signal, no-activity, level-below, level-above, levels}
 use Rattle.meter.specs.Calls.{HandedReport, reportCall}
 use Rattle.meter.specs.Inner.{unreported, reportedWith}
@@ -146,9 +144,6 @@ pub answered : (m : Meter) → impossible m ≡ false → Answered m (reportCall
 unfolding unreported reportedWith noSamples noSignal noActivity firstOfMeter firstExcess reportAt
 answered m ok = by-n (noSamples m) refl
   where
-    sq : ℕ
-    sq = number (m .state .sums .sq)
-
     above : (n : ℕ) → eqb n 0 ≡ false → 0 < n
     above n e = pos-of-ne-zero (eqb-false n 0 e)
 

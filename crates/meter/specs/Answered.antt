@@ -8,7 +8,6 @@ use lib.IntN.{ℤ, pos, _-ℤ_}
 use lib.ListN.{getD, replicate}
 use lib.Signed.{ltZ}
 use Rattle.level.specs.Logarithm.{number, lev}
-use Rattle.level.specs.declared.Samples.{Samples}
 use Rattle.crossing.specs.Levels.{longTerm, excess}
 use Rattle.crossing.specs.Crossing.{isCrossing, lowerOf, upperOf, activeLevel}
 use Rattle.crossing.specs.Found.{margin}

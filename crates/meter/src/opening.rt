@@ -4,7 +4,6 @@ ghost use Rattle.meter.specs.Calls.{handedBy, openCall};
 ghost use Rattle.meter.specs.Inner.{freshAt};
 use crate::Fed;
 use crate::Meter;
-use setting::Setting;
 use level::Squares;
 use rate::Named;
 use rate::Rate;
@@ -12,6 +11,7 @@ use refusal::Answer;
 use refusal::Refusal;
 use sample::State;
 use sample::Sums;
+use setting::Setting;
 
 impl Meter {
     // The fresh meter; or refusal 1, with a meter of all zeros that every later call refuses.

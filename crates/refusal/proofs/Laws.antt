@@ -3,7 +3,7 @@
 use mathlib.Core.Bool.{Bool, true, false, cond, _&&_, _||_, and-false}
 use mathlib.Core.List.{List, [], _∷_, _++_}
 use mathlib.Core.Path.{_≡_, refl, sym, ap, subst, _∙_}
-use Prim.Native.Nat.{ℕ, suc, _≤_, _<_}
+use Prim.Native.Nat.{ℕ, _≤_, _<_}
 use native.Mathlib.Nat.{le-of-eq, le-of-lt}
 use native.Mathlib.Omega.{arith}
 use borrow.Author.Tests.{eqb-true, ltb-true, lt-ltb}
@@ -12,7 +12,7 @@ use lib.ListN.{getD}
 use Rattle.refusal.specs.declared.Refusal.{Refusal}
 use Rattle.refusal.specs.declared.Refusal.the-variants.{UnnamedRate, ImpossibleMeter, LongChunk, BlockLength, BlockCheck, BlockKind, BlockRate, BlockCount, BlockUnused, BlockPlace, TooManySamples, NoSamples, NoSignal, NoActivity, NoCrossingBelow, NoCrossingAbove}
 use Rattle.refusal.specs.Number.{numberOf}
-use Rattle.refusal.specs.First.{Rule, firstOf, NoneApplies, applies, numbered, rising, Decides, Given, Lowest}
+use Rattle.refusal.specs.First.{Rule, firstOf, NoneApplies, applies, numbered, rising, Given, Lowest}
 
 pub here : (k : ℕ) (b : Bool) (rest : List Rule) → b ≡ true → k ≡ firstOf ((k, b) ∷ rest)
 unfolding firstOf

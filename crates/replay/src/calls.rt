@@ -5,9 +5,9 @@ use input::Half;
 use level::Squares;
 use meter::Fed;
 use meter::Meter;
-use setting::Setting;
 use sample::State;
 use sample::Sums;
+use setting::Setting;
 
 // 1: opening.
 pub fn open(meter: Meter) -> Turn {

@@ -5,9 +5,9 @@ ghost use lib.ListN.{length};
 use crossing::Levels;
 use meter::Fed;
 use meter::Meter;
-use setting::Setting;
 use refusal::Answer;
 use sample::State;
+use setting::Setting;
 
 fn main() {
     let fresh = Meter::open(Setting { code: 1 });
