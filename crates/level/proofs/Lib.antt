@@ -3,3 +3,4 @@ mod Squarings
 pub mod Laws
 mod Tight
 mod Window
+pub mod Words

@@ -1,1 +1,2 @@
 pub mod Logarithm
+pub mod Types

@@ -6,7 +6,6 @@ use lib.Dec.{leb}
 use lib.IntN.{ℤ, pos}
 use Rattle.level.specs.declared.Level.{Level}
 use Rattle.level.specs.declared.Level.the-variants.{At, None}
-use Rattle.level.specs.declared.Squares.{Squares}
 
 -- the highest of the places 0 to k whose power of two is not above n
 unfoldable pub placeUpTo : ℕ → ℕ → ℕ
@@ -45,10 +44,6 @@ levelOf n = cond (leb 1 n && leb n (2 ^ 80)) (some (pos (lev n))) none
 unfoldable pub valueOf : Level → Option ℤ
 valueOf (At s) = some (s .0)
 valueOf None = none
-
--- the number that two words hold
-abbrev pub number : Squares → ℕ
-number q = q .high * 2 ^ 64 + q .low
 
 -- the three facts that the meter rests on
 pub record Facts (lev : ℕ → ℕ) : Type 0 where

@@ -1,15 +1,21 @@
 // The level logarithm (document 01, "The level logarithm"), and the types that keep counts of
 // samples and levels in steps apart: only the logarithm leads from the one to the other.
+mod sums;
+
 ghost use mathlib.Core.Path.{_≡_};
 ghost use Prim.Native.Nat.{_+_, _*_, _^_, _≤_, _<_};
 ghost use lib.Dec.{ltb};
-ghost use Rattle.level.specs.Logarithm.{placeUpTo, spell, lev, number, levelOf, valueOf};
+ghost use Rattle.level.specs.Logarithm.{placeUpTo, spell, lev, levelOf, valueOf};
+ghost use Rattle.level.specs.Types.{samplesOf, stepsOf, twoWords};
+
+// How many thresholds there are.
+pub const THRESHOLDS: usize = 15;
 
 // A level, or a difference of two, in steps of 1/4096 of a doubling of power.
-pub struct Steps(pub i64);
+pub struct Steps(i64);
 
 // A count of samples.
-pub struct Samples(pub u64);
+pub struct Samples(u64);
 
 // A sum of squares, in two words.
 pub struct Squares {
@@ -23,10 +29,24 @@ pub enum Level {
     None,
 }
 
+impl Steps {
+    pub fn of(x: i64) -> Steps
+        ensures { λ r. ⌜ r ≡ stepsOf x ⌝ }
+    {
+        Steps(x)
+    }
+
+    pub fn value(self) -> i64
+        ensures { λ r. ⌜ r ≡ self .0 ⌝ }
+    {
+        self.0
+    }
+}
+
 impl Squares {
     // The level of a sum of squares.
     pub fn level(self) -> Level
-        ensures { λ r. ⌜ valueOf r ≡ levelOf (number self) ⌝ }
+        ensures { λ r. ⌜ valueOf r ≡ levelOf (twoWords self) ⌝ }
     {
         let high = self.high;
         let low = self.low;
@@ -35,6 +55,18 @@ impl Squares {
 }
 
 impl Samples {
+    pub fn of(n: u64) -> Samples
+        ensures { λ r. ⌜ r ≡ samplesOf n ⌝ }
+    {
+        Samples(n)
+    }
+
+    pub fn count(self) -> u64
+        ensures { λ r. ⌜ r ≡ self .0 ⌝ }
+    {
+        self.0
+    }
+
     // The level of a count.
     pub fn level(self) -> Level
         ensures { λ r. ⌜ valueOf r ≡ levelOf (self .0) ⌝ }
