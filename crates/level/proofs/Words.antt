@@ -2,7 +2,7 @@
 use mathlib.Core.Bool.{Bool, true, false}
 use mathlib.Core.Path.{_≡_, refl, sym, ap₂, _∙_, subst}
 use Prim.Native.Nat.{ℕ, suc, _+_, _*_, _/_, _%_, _^_, _≤_, _<_}
-use native.Mathlib.Nat.{mul-le-mul-right, div-add-mod', le-of-lt}
+use native.Mathlib.Nat.{mul-le-mul-right, div-add-mod', le-of-lt, mod-eq-of-lt}
 use native.Mathlib.Omega.{arith}
 use borrow.Author.Tests.{ltb-true, ltb-false, lt-ltb, le-ltb}
 use lib.Dec.{ltb}
@@ -42,13 +42,28 @@ carry low y r hl hy e = go (ltb r y) refl
     go true q = omega (arith, ltb-true r y q)
     go false q = omega (arith, ltb-false r y q)
 
--- where the high word has room, the words grow as their number does
-pub grown-is : (q : Squares) (y : ℕ) → q .high < 2 ^ 63 → q .low < 2 ^ 64 → y < 2 ^ 64 → grown q y ≡ words (twoWords q + y)
+-- up to 2^80 the words grow as their number does
+pub grown-is : (q : Squares) (y : ℕ) → twoWords q ≤ 2 ^ 80 → y < 2 ^ 64 → grown q y ≡ words (twoWords q + y)
 unfolding grown words
-grown-is q y h l b = ap₂ (λ (x z : ℕ). record { high = x; low = z }) (high-word (q .high) (q .low) y h l b) (low-word (q .high) (q .low) y)
+grown-is q y m b =
+    ap₂ (λ (x z : ℕ). record { high = x; low = z })
+    (mod-eq-of-lt (room (q .high) ((q .low + y) / 2 ^ 64) (high-max (q .high) (q .low) m) (carry-max (q .low) y (low-max (q .high) (q .low) m) b)) ∙ high-word (q .high) (q .low) y)
+    (low-word (q .high) (q .low) y)
   where
-    high-word : (hi lo y : ℕ) → hi < 2 ^ 63 → lo < 2 ^ 64 → y < 2 ^ 64 → (hi + (lo + y) / 2 ^ 64) % 2 ^ 64 ≡ (hi * 2 ^ 64 + lo + y) / 2 ^ 64
-    high-word hi lo y h l b = omega arith
+    high-max : (hi lo : ℕ) → hi * 2 ^ 64 + lo ≤ 2 ^ 80 → hi ≤ 2 ^ 16
+    high-max hi lo h = omega arith
+
+    low-max : (hi lo : ℕ) → hi * 2 ^ 64 + lo ≤ 2 ^ 80 → lo ≤ 2 ^ 80
+    low-max hi lo h = omega arith
+
+    carry-max : (lo y : ℕ) → lo ≤ 2 ^ 80 → y < 2 ^ 64 → (lo + y) / 2 ^ 64 ≤ 2 ^ 17
+    carry-max lo y h l = omega arith
+
+    room : (hi c : ℕ) → hi ≤ 2 ^ 16 → c ≤ 2 ^ 17 → hi + c < 2 ^ 64
+    room hi c h l = omega arith
+
+    high-word : (hi lo y : ℕ) → hi + (lo + y) / 2 ^ 64 ≡ (hi * 2 ^ 64 + lo + y) / 2 ^ 64
+    high-word hi lo y = omega arith
 
     low-word : (hi lo y : ℕ) → (lo + y) % 2 ^ 64 ≡ (hi * 2 ^ 64 + lo + y) % 2 ^ 64
     low-word hi lo y = omega arith

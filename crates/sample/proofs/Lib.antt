@@ -1,8 +1,10 @@
 pub mod Activity
 pub mod Envelope
-pub mod Fifteen
+mod Front
 pub mod Kept
 mod Over
+pub mod Places
+mod Numbers
 mod Ran
 mod Settling
 pub mod Signs

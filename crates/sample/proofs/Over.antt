@@ -10,11 +10,10 @@ use borrow.Author.Tests.{ltb-true, ltb-false, le-leb, lt-leb}
 use lib.Dec.{leb, ltb}
 use lib.ListN.{getD}
 use Rattle.sample.specs.Activity.{counted, hung}
-use Rattle.sample.specs.Envelope.{threshold}
-use Rattle.sample.specs.Sample.{counts, hangovers}
-use Rattle.sample.specs.Runs.{countOver, hangoverOver, countsBy, hangoversBy, Clear}
+use Rattle.sample.specs.Sample.{hangovers}
+use Rattle.sample.specs.Inner.Runs.{countOver, hangoverOver, plainCounts, countsBy, hangoversBy, Clear}
 use Rattle.sample.proofs.Activity.{counted-le, hung-le}
-use Rattle.sample.proofs.Fifteen.{fifteen-at, fifteen-same}
+use Rattle.sample.proofs.Places.{each-at, each-same}
 
 -- ---- on: every sample counts
 
@@ -90,29 +89,29 @@ hangover-over-le I on (suc d) h l = hung-le I on (hangoverOver I on d h) (hangov
 
 -- ---- two envelopes in one band are on the same side of every threshold
 
-pub same-side : (low high Q R : ℕ) → Clear low high → low ≤ Q → Q < high → low ≤ R → R < high → (j : ℕ) → leb (threshold j) Q ≡ leb (threshold j) R
-same-side low high Q R c lq qh lr rh j =
-    ⊎-elim (λ l. le-leb (threshold j) Q (le-trans l lq) ∙ sym (le-leb (threshold j) R (le-trans l lr)))
-    (λ l. lt-leb (threshold j) Q (lt-of-lt-of-le qh l) ∙ sym (lt-leb (threshold j) R (lt-of-lt-of-le rh l)))
-    (c .side j)
+pub same-side : (c : ℕ → ℕ) (low high Q R : ℕ) → Clear c low high → low ≤ Q → Q < high → low ≤ R → R < high → (j : ℕ) → leb (c j) Q ≡ leb (c j) R
+same-side c low high Q R clear lq qh lr rh j =
+    ⊎-elim (λ l. le-leb (c j) Q (le-trans l lq) ∙ sym (le-leb (c j) R (le-trans l lr)))
+    (λ l. lt-leb (c j) Q (lt-of-lt-of-le qh l) ∙ sym (lt-leb (c j) R (lt-of-lt-of-le rh l)))
+    (clear .side j)
 
 -- ---- one sample more, at an envelope q on the same sides as Q
 
-module _ (I Q q i : ℕ) (since a h : List ℕ) (s : (j : ℕ) → leb (threshold j) q ≡ leb (threshold j) Q) (before : (j : ℕ) → getD since j 0 ≤ i) where
+module _ (c : ℕ → ℕ) (k I Q q i : ℕ) (since a h : List ℕ) (s : (j : ℕ) → leb (c j) q ≡ leb (c j) Q) (before : (j : ℕ) → getD since j 0 ≤ i) where
   later : (j : ℕ) → i + 1 - getD since j 0 ≡ suc (i - getD since j 0)
   later j = omega (arith, before j)
 
-  pub one-hangovers : hangovers I q (hangoversBy I Q i since h) ≡ hangoversBy I Q (i + 1) since h
+  pub one-hangovers : hangovers c k I q (hangoversBy c k I Q i since h) ≡ hangoversBy c k I Q (i + 1) since h
   unfolding hangovers hangoversBy hangoverOver
   one-hangovers =
-      fifteen-same _ _ (λ j l.
-      ap₂ (λ (b : Bool) (x : ℕ). hung I b x) (s j) (fifteen-at _ j l)
-      ∙ sym (ap (λ (d : ℕ). hangoverOver I (leb (threshold j) Q) d (getD h j 0)) (later j)))
+      each-same k _ _ (λ j l.
+      ap₂ (λ (b : Bool) (x : ℕ). hung I b x) (s j) (each-at 0 k _ j l)
+      ∙ sym (ap (λ (d : ℕ). hangoverOver I (leb (c j) Q) d (getD h j 0)) (later j)))
 
-  pub one-counts : counts I q (countsBy I Q i since a h) (hangoversBy I Q i since h) ≡ countsBy I Q (i + 1) since a h
-  unfolding counts countsBy hangoversBy countOver
+  pub one-counts : plainCounts c k I q (countsBy c k I Q i since a h) (hangoversBy c k I Q i since h) ≡ countsBy c k I Q (i + 1) since a h
+  unfolding plainCounts countsBy hangoversBy countOver
   one-counts =
-      fifteen-same _ _ (λ j l.
-      ap₂ (λ (x y : ℕ). counted I (leb (threshold j) q) x y) (fifteen-at _ j l) (fifteen-at _ j l)
-      ∙ ap (λ (b : Bool). counted I b (countOver I (leb (threshold j) Q) (i - getD since j 0) (getD a j 0) (getD h j 0)) (hangoverOver I (leb (threshold j) Q) (i - getD since j 0) (getD h j 0))) (s j)
-      ∙ sym (ap (λ (d : ℕ). countOver I (leb (threshold j) Q) d (getD a j 0) (getD h j 0)) (later j)))
+      each-same k _ _ (λ j l.
+      ap₂ (λ (x y : ℕ). counted I (leb (c j) q) x y) (each-at 0 k _ j l) (each-at 0 k _ j l)
+      ∙ ap (λ (b : Bool). counted I b (countOver I (leb (c j) Q) (i - getD since j 0) (getD a j 0) (getD h j 0)) (hangoverOver I (leb (c j) Q) (i - getD since j 0) (getD h j 0))) (s j)
+      ∙ sym (ap (λ (d : ℕ). countOver I (leb (c j) Q) d (getD a j 0) (getD h j 0)) (later j)))

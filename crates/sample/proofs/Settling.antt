@@ -9,7 +9,7 @@ use borrow.Author.Tests.{eqb-true, eqb-false, ltb-true, ltb-false, leb-true, lt-
 use lib.Dec.{T, eqb, leb, ltb}
 use lib.ListN.{length, getD, set, length-set}
 use lib.Seq.{getD-set-same, getD-set-other}
-use Rattle.sample.specs.Runs.{countOver, hangoverOver, Standing, SettledAt, Settled, between}
+use Rattle.sample.specs.Inner.Runs.{countOver, hangoverOver, Standing, SettledAt, Settled, between}
 use Rattle.sample.proofs.Over.{no-count, no-hangover, count-over-le, hangover-over-le}
 
 -- ---- places
@@ -68,10 +68,10 @@ same-places from to j i l m h = go (between from j i) refl (between from to i) r
 
 -- ---- a turn of the loop
 
-pub none-yet : (I at from : ℕ) (on : Bool) (a h since : List ℕ) → 15 ≡ length a → 15 ≡ length h → 15 ≡ length since
-    → Settled I at (λ j. between from from j) (λ _. on) a h since a h since
-none-yet I at from on a h since la lh ls =
-    record { a-length = la; h-length = lh; since-length = ls; each = λ j. go j (between from from j) refl }
+pub none-yet : (k I at from : ℕ) (on : Bool) (a h since : List ℕ) → k ≡ length a → k ≡ length h → k ≡ length since
+    → Settled k I at (λ j. between from from j) (λ _. on) a h since a h since
+none-yet k I at from on a h since la lh ls =
+    record { a-length = la; h-length = lh; since-length = ls; each-one = λ j. go j (between from from j) refl }
   where
     go : (j : ℕ) (t : Bool) → between from from j ≡ t → SettledAt I at (between from from j) on (getD a j 0) (getD h j 0) (getD since j 0) (getD a j 0) (getD h j 0) (getD since j 0)
     go j true e = let p = in-between from from j e in absurd (omega (arith, p .0, p .1))
@@ -79,11 +79,11 @@ none-yet I at from on a h since la lh ls =
         subst (λ (b : Bool). SettledAt I at b on (getD a j 0) (getD h j 0) (getD since j 0) (getD a j 0) (getD h j 0) (getD since j 0)) (sym e)
         (record { count = refl; hangover = refl; index = refl })
 
-module _ (I at from : ℕ) (on : Bool) (a₀ h₀ s₀ a h s : List ℕ) (j : ℕ) (l : from ≤ j) (b : j < 15) (so-far : Settled I at (λ i. between from j i) (λ _. on) a₀ h₀ s₀ a h s) where
+module _ (k I at from : ℕ) (on : Bool) (a₀ h₀ s₀ a h s : List ℕ) (j : ℕ) (l : from ≤ j) (b : j < k) (so-far : Settled k I at (λ i. between from j i) (λ _. on) a₀ h₀ s₀ a h s) where
   -- the place is as it was
   pub untouched : SettledAt I at false on (getD a₀ j 0) (getD h₀ j 0) (getD s₀ j 0) (getD a j 0) (getD h j 0) (getD s j 0)
   untouched =
-      subst (λ (t : Bool). SettledAt I at t on (getD a₀ j 0) (getD h₀ j 0) (getD s₀ j 0) (getD a j 0) (getD h j 0) (getD s j 0)) (between-past from j j (omega arith)) (so-far .each j)
+      subst (λ (t : Bool). SettledAt I at t on (getD a₀ j 0) (getD h₀ j 0) (getD s₀ j 0) (getD a j 0) (getD h j 0) (getD s j 0)) (between-past from j j (omega arith)) (so-far .each-one j)
 
   module _ (v w : ℕ) (ev : v ≡ countOver I on (at - getD s j 0) (getD a j 0) (getD h j 0)) (ew : w ≡ hangoverOver I on (at - getD s j 0) (getD h j 0)) where
     here : SettledAt I at true on (getD a₀ j 0) (getD h₀ j 0) (getD s₀ j 0) (getD (set a j v) j 0) (getD (set h j w) j 0) (getD (set s j at) j 0)
@@ -104,7 +104,7 @@ module _ (I at from : ℕ) (on : Bool) (a₀ h₀ s₀ a h s : List ℕ) (j : �
         (sym (between-in from (j + 1) j l (omega arith))) here)
     each i false e =
         let f = eqb-false i j e in
-        let p = so-far .each i in
+        let p = so-far .each-one i in
         subst (λ (t : Bool). SettledAt I at t on (getD a₀ i 0) (getD h₀ i 0) (getD s₀ i 0) (getD (set a j v) i 0) (getD (set h j w) i 0) (getD (set s j at) i 0))
         (sym (between-other from j i f))
         (record {
@@ -113,23 +113,23 @@ module _ (I at from : ℕ) (on : Bool) (a₀ h₀ s₀ a h s : List ℕ) (j : �
           index = getD-set-other s j i at 0 f ∙ p .index;
         })
 
-    pub one-more : Settled I at (λ i. between from (j + 1) i) (λ _. on) a₀ h₀ s₀ (set a j v) (set h j w) (set s j at)
+    pub one-more : Settled k I at (λ i. between from (j + 1) i) (λ _. on) a₀ h₀ s₀ (set a j v) (set h j w) (set s j at)
     one-more =
         record {
           a-length = so-far .a-length ∙ sym (length-set a j v);
           h-length = so-far .h-length ∙ sym (length-set h j w);
           since-length = so-far .since-length ∙ sym (length-set s j at);
-          each = λ i. each i (eqb i j) refl;
+          each-one = λ i. each i (eqb i j) refl;
         }
 
 -- the places may be told in another way
-pub by-places : (I at : ℕ) (one other on : ℕ → Bool) (a h s a′ h′ s′ : List ℕ) → ((j : ℕ) → one j ≡ other j) → Settled I at one on a h s a′ h′ s′ → Settled I at other on a h s a′ h′ s′
-by-places I at one other on a h s a′ h′ s′ e p =
+pub by-places : (k I at : ℕ) (one other on : ℕ → Bool) (a h s a′ h′ s′ : List ℕ) → ((j : ℕ) → one j ≡ other j) → Settled k I at one on a h s a′ h′ s′ → Settled k I at other on a h s a′ h′ s′
+by-places k I at one other on a h s a′ h′ s′ e p =
     record {
       a-length = p .a-length;
       h-length = p .h-length;
       since-length = p .since-length;
-      each = λ j. subst (λ (t : Bool). SettledAt I at t (on j) (getD a j 0) (getD h j 0) (getD s j 0) (getD a′ j 0) (getD h′ j 0) (getD s′ j 0)) (e j) (p .each j);
+      each-one = λ j. subst (λ (t : Bool). SettledAt I at t (on j) (getD a j 0) (getD h j 0) (getD s j 0) (getD a′ j 0) (getD h′ j 0) (getD s′ j 0)) (e j) (p .each-one j);
     }
 
 -- ---- twice
@@ -153,17 +153,17 @@ twice-at I at false true on₁ on₂ on a h s a₁ h₁ s₁ a₂ h₂ s₂ f g 
 twice-at I at false false on₁ on₂ on a h s a₁ h₁ s₁ a₂ h₂ s₂ f g k p q =
     record { count = q .count ∙ p .count; hangover = q .hangover ∙ p .hangover; index = q .index ∙ p .index }
 
-pub twice : (I at : ℕ) (one two on₁ on₂ on : ℕ → Bool) (a h s a₁ h₁ s₁ a₂ h₂ s₂ : List ℕ)
+pub twice : (k I at : ℕ) (one two on₁ on₂ on : ℕ → Bool) (a h s a₁ h₁ s₁ a₂ h₂ s₂ : List ℕ)
     → ((j : ℕ) → one j ≡ true → two j ≡ false) → ((j : ℕ) → one j ≡ true → on₁ j ≡ on j) → ((j : ℕ) → two j ≡ true → on₂ j ≡ on j)
-    → Settled I at one on₁ a h s a₁ h₁ s₁ → Settled I at two on₂ a₁ h₁ s₁ a₂ h₂ s₂ → Settled I at (λ j. one j || two j) on a h s a₂ h₂ s₂
-twice I at one two on₁ on₂ on a h s a₁ h₁ s₁ a₂ h₂ s₂ f g k p q =
+    → Settled k I at one on₁ a h s a₁ h₁ s₁ → Settled k I at two on₂ a₁ h₁ s₁ a₂ h₂ s₂ → Settled k I at (λ j. one j || two j) on a h s a₂ h₂ s₂
+twice k I at one two on₁ on₂ on a h s a₁ h₁ s₁ a₂ h₂ s₂ f g o p q =
     record {
       a-length = q .a-length;
       h-length = q .h-length;
       since-length = q .since-length;
-      each = λ j.
+      each-one = λ j.
           twice-at I at (one j) (two j) (on₁ j) (on₂ j) (on j) (getD a j 0) (getD h j 0) (getD s j 0) (getD a₁ j 0) (getD h₁ j 0) (getD s₁ j 0) (getD a₂ j 0) (getD h₂ j 0) (getD s₂ j 0)
-          (f j) (g j) (k j) (p .each j) (q .each j);
+          (f j) (g j) (o j) (p .each-one j) (q .each-one j);
     }
 
 -- ---- what a settled counter stands for, whatever side of its threshold the envelope is on from there on
@@ -198,13 +198,13 @@ room-at : (I at : ℕ) (one on : Bool) (a h s a′ h′ s′ : ℕ) → SettledA
 room-at I at true on a h s a′ h′ s′ p b = omega (arith, p .index, p .count, count-over-le I on (at - s) a h)
 room-at I at false on a h s a′ h′ s′ p b = omega (arith, p .index, p .count)
 
-pub still-standing : (I at : ℕ) (one on : ℕ → Bool) (a h s a′ h′ s′ : List ℕ) → Standing I at a h s → Settled I at one on a h s a′ h′ s′ → Standing I at a′ h′ s′
-still-standing I at one on a h s a′ h′ s′ p q =
+pub still-standing : (k I at : ℕ) (one on : ℕ → Bool) (a h s a′ h′ s′ : List ℕ) → Standing k I at a h s → Settled k I at one on a h s a′ h′ s′ → Standing k I at a′ h′ s′
+still-standing k I at one on a h s a′ h′ s′ p q =
     record {
       a-length = q .a-length;
       h-length = q .h-length;
       since-length = q .since-length;
-      index = λ j. index-le I at (one j) (on j) _ _ _ _ _ _ (q .each j) (p .index j);
-      room = λ j. room-at I at (one j) (on j) _ _ _ _ _ _ (q .each j) (p .room j);
-      h-max = λ j. hangover-le I at (one j) (on j) _ _ _ _ _ _ (q .each j) (p .h-max j);
+      index = λ j. index-le I at (one j) (on j) _ _ _ _ _ _ (q .each-one j) (p .index j);
+      room = λ j. room-at I at (one j) (on j) _ _ _ _ _ _ (q .each-one j) (p .room j);
+      h-max = λ j. hangover-le I at (one j) (on j) _ _ _ _ _ _ (q .each-one j) (p .h-max j);
     }

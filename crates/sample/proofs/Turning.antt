@@ -9,102 +9,102 @@ use borrow.Author.Tests.{ltb-true, ltb-false}
 use lib.Dec.{T, leb, ltb}
 use lib.IntN.{ℤ}
 use lib.ListN.{length, getD, drop}
+use Rattle.level.specs.Types.{thresholds}
+use Rattle.sample.specs.declared.Counting.{Counting}
 use Rattle.sample.specs.declared.Sums.{Sums}
-use Rattle.sample.specs.declared.State.{State}
 use Rattle.sample.specs.Envelope.{threshold}
-use Rattle.sample.specs.Sample.{fifteen}
-use Rattle.sample.specs.Runs.{BoundedSums, countOver, hangoverOver, countsBy, hangoversBy, Standing, Settled, between, Clear, Below, stateOf, led, Ran}
-use Rattle.sample.proofs.Fifteen.{fifteen-length, fifteen-at, fifteen-same, is-fifteen, at-or-past}
+use Rattle.sample.specs.Sample.{mostSamples, each}
+use Rattle.sample.specs.StateAfter.{BoundedSums}
+use Rattle.sample.specs.Inner.Runs.{countOver, hangoverOver, countsBy, hangoversBy, Standing, Settled, between, Around, stateOf, led, ledBy, Ran}
+use Rattle.sample.proofs.Places.{list-length, each-at, each-same, is-each, at-or-past}
 use Rattle.sample.proofs.Over.{no-count, no-hangover}
 use Rattle.sample.proofs.Ran.{none-left}
 use Rattle.sample.proofs.Settling.{between-in, stands-count, stands-hangover, index-le, count-le, hangover-le}
 
--- at index at: the sums hold the sample there, and each counter stands for the envelope's band. The loop starts with m, whose sums hold the first
--- sample
-pub record Turning (K I : ℕ) (m : State) (xs : List ℤ) (a h since : List ℕ) (sums : Sums) (low high below at : ℕ) : Type 0 where
+-- at index at: the sums hold the sample there, and each counter stands for the envelope's band. The loop starts with the sums m, which hold the first
+-- sample, and the counters a₀ and h₀
+pub record Turning (by : Counting) (m : Sums) (a₀ h₀ : List ℕ) (xs : List ℤ) (a h since : List ℕ) (sums : Sums) (low high below at : ℕ) : Type 0 where
   pub within : at ≤ length xs
   pub bounded : BoundedSums sums
-  pub total : at < length xs → sums .n ≡ m .sums .n + at
-  pub a-length : 15 ≡ length a
-  pub h-length : 15 ≡ length h
-  pub since-length : 15 ≡ length since
+  pub total : at < length xs → sums .n .0 ≡ m .n .0 + at
+  pub a-length : thresholds ≡ length a
+  pub h-length : thresholds ≡ length h
+  pub since-length : thresholds ≡ length since
   pub index : (j : ℕ) → getD since j 0 ≤ at
-  pub a-max : (j : ℕ) → getD a j 0 < m .sums .n + getD since j 0
-  pub h-max : (j : ℕ) → getD h j 0 ≤ I
-  pub clear : Clear low high
-  pub sides : Below low below
-  pub low-q : low ≤ sums .q
-  pub q-high : sums .q < high
-  pub rest : led K I (stateOf sums (countsBy I low at since a h) (hangoversBy I low at since h)) (drop at xs) ≡ led K I m xs
+  pub a-max : (j : ℕ) → getD a j 0 < m .n .0 + getD since j 0
+  pub h-max : (j : ℕ) → getD h j 0 ≤ by .i
+  pub around : Around threshold thresholds (sums .q) low high below
+  pub rest : ledBy by sums low at since a h (drop at xs) ≡ led by m a₀ h₀ xs
 
 -- ---- the start
 
 -- each counter stands as it was at index 0
-zeros-at : (j : ℕ) → getD (fifteen (λ _. 0)) j 0 ≡ 0
-zeros-at j = omega (arith, at-or-past (fifteen (λ _. 0)) 0 (fifteen-length _) (λ i l. omega (arith, fifteen-at (λ _. 0) i l)) j)
+zeros : List ℕ
+zeros = each thresholds (λ _. 0)
 
-module _ (I Q : ℕ) (a h : List ℕ) (la : 15 ≡ length a) (lh : 15 ≡ length h) where
-  none-since : (j : ℕ) → 0 - getD (fifteen (λ _. 0)) j 0 ≡ 0
+zeros-at : (j : ℕ) → getD zeros j 0 ≡ 0
+unfolding zeros
+zeros-at j = omega (arith, at-or-past (each thresholds (λ _. 0)) thresholds 0 (list-length _ 0 thresholds) (λ i l. omega (arith, each-at {A = ℕ} 0 thresholds (λ _. 0) i l)) j)
+
+module _ (I Q : ℕ) (a h : List ℕ) (la : thresholds ≡ length a) (lh : thresholds ≡ length h) where
+  none-since : (j : ℕ) → 0 - getD zeros j 0 ≡ 0
   none-since j = omega (arith, zeros-at j)
 
-  at-first-counts : a ≡ countsBy I Q 0 (fifteen (λ _. 0)) a h
+  at-first-counts : a ≡ countsBy threshold thresholds I Q 0 zeros a h
   unfolding countsBy
-  at-first-counts = is-fifteen a _ la (λ j l. sym (no-count I (leb (threshold j) Q) _ (getD a j 0) (getD h j 0) (none-since j)))
+  at-first-counts = is-each 0 thresholds a _ la (λ j l. sym (no-count I (leb (threshold j) Q) _ (getD a j 0) (getD h j 0) (none-since j)))
 
-  at-first-hangovers : h ≡ hangoversBy I Q 0 (fifteen (λ _. 0)) h
+  at-first-hangovers : h ≡ hangoversBy threshold thresholds I Q 0 zeros h
   unfolding hangoversBy
-  at-first-hangovers = is-fifteen h _ lh (λ j l. sym (no-hangover I (leb (threshold j) Q) _ (getD h j 0) (none-since j)))
+  at-first-hangovers = is-each 0 thresholds h _ lh (λ j l. sym (no-hangover I (leb (threshold j) Q) _ (getD h j 0) (none-since j)))
 
-pub started : (K I : ℕ) (m : State) (xs : List ℤ) (low high below : ℕ) → BoundedSums (m .sums) → 15 ≡ length (m .a) → 15 ≡ length (m .h)
-    → ((j : ℕ) → getD (m .a) j 0 < m .sums .n) → ((j : ℕ) → getD (m .h) j 0 ≤ I) → Clear low high → Below low below → low ≤ m .sums .q → m .sums .q < high
-    → Turning K I m xs (m .a) (m .h) (fifteen (λ _. 0)) (m .sums) low high below 0
-started K I m xs low high below b la lh am hm c s lq qh =
+pub started : (by : Counting) (m : Sums) (a h : List ℕ) (xs : List ℤ) (low high below : ℕ) → BoundedSums m → thresholds ≡ length a → thresholds ≡ length h
+    → ((j : ℕ) → getD a j 0 < m .n .0) → ((j : ℕ) → getD h j 0 ≤ by .i) → Around threshold thresholds (m .q) low high below
+    → Turning by m a h xs a h (each thresholds (λ _. 0)) m low high below 0
+unfolding zeros
+started by m a h xs low high below b la lh am hm r =
     record {
       within = omega arith;
       bounded = b;
       total = λ _. omega arith;
       a-length = la;
       h-length = lh;
-      since-length = sym (fifteen-length (λ _. 0));
+      since-length = sym (list-length (λ _. 0) 0 thresholds);
       index = λ j. omega (arith, zeros-at j);
       a-max = λ j. omega (arith, am j, zeros-at j);
       h-max = hm;
-      clear = c;
-      sides = s;
-      low-q = lq;
-      q-high = qh;
-      rest =
-          ap₂ (λ (x y : List ℕ). led K I (stateOf (m .sums) x y) xs) (sym (at-first-counts I low (m .a) (m .h) la lh)) (sym (at-first-hangovers I low (m .a) (m .h) la lh));
+      around = r;
+      rest = ap₂ (λ (x y : List ℕ). led by m x y xs) (sym (at-first-counts (by .i) low a h la lh)) (sym (at-first-hangovers (by .i) low a h la lh));
     }
 
-module _ (K I : ℕ) (m : State) (xs : List ℤ) (a h since : List ℕ) (sums : Sums) (low high below at : ℕ) (t : Turning K I m xs a h since sums low high below at)
-    (all : m .sums .n + length xs ≤ 2 ^ 48 + 1) where
+module _ (by : Counting) (m : Sums) (a₀ h₀ : List ℕ) (xs : List ℤ) (a h since : List ℕ) (sums : Sums) (low high below at : ℕ) (t : Turning by m a₀ h₀ xs a h since sums low high below at)
+    (all : m .n .0 + length xs ≤ mostSamples + 1) where
   -- there is room for the samples after the one in the sums
-  pub room-left : at < length xs → sums .n + (length xs - (at + 1)) ≤ 2 ^ 48
-  room-left l = left (sums .n) (m .sums .n) at (length xs) (t .total l) l all
+  pub room-left : at < length xs → sums .n .0 + (length xs - (at + 1)) ≤ mostSamples
+  room-left l = left (sums .n .0) (m .n .0) at (length xs) (t .total l) l all
     where
-      left : (s n i l : ℕ) → s ≡ n + i → i < l → n + l ≤ 2 ^ 48 + 1 → s + (l - (i + 1)) ≤ 2 ^ 48
+      left : (s n i l : ℕ) → s ≡ n + i → i < l → n + l ≤ mostSamples + 1 → s + (l - (i + 1)) ≤ mostSamples
       left s n i l e h k = omega arith
 
   -- the counters can be settled at any later index
-  pub standing : (end : ℕ) → at ≤ end → end ≤ length xs → Standing I end a h since
+  pub standing : (end : ℕ) → at ≤ end → end ≤ length xs → Standing thresholds (by .i) end a h since
   standing end l e =
       record {
         a-length = t .a-length;
         h-length = t .h-length;
         since-length = t .since-length;
         index = λ j. omega (arith, t .index j);
-        room = λ j. fits (getD a j 0) (getD since j 0) (m .sums .n) end (length xs) (t .a-max j) (omega (arith, t .index j)) e all;
+        room = λ j. fits (getD a j 0) (getD since j 0) (m .n .0) end (length xs) (t .a-max j) (omega (arith, t .index j)) e all;
         h-max = t .h-max;
       }
     where
-      fits : (v s n e l : ℕ) → v < n + s → s ≤ e → e ≤ l → n + l ≤ 2 ^ 48 + 1 → v + (e - s) < 2 ^ 63
+      fits : (v s n e l : ℕ) → v < n + s → s ≤ e → e ≤ l → n + l ≤ mostSamples + 1 → v + (e - s) < 2 ^ 63
       fits v s n e l h g p k = omega arith
 
   -- ---- a turn
 
-  module _ (r : Sums) (end low′ high′ is : ℕ) (R : Ran K low high sums xs at r end) (c : Clear low′ high′) (s : Below low′ is) (lq : low′ ≤ r .q) (qh : r .q < high′)
-      (a′ h′ since′ : List ℕ) (S : Settled I end (λ j. between below is j || between is below j) (λ j. ltb j below) a h since a′ h′ since′) where
+  module _ (r : Sums) (end low′ high′ is : ℕ) (R : Ran by low high sums xs at r end) (b : Around threshold thresholds (r .q) low′ high′ is)
+      (a′ h′ since′ : List ℕ) (S : Settled thresholds (by .i) end (λ j. between below is j || between is below j) (λ j. ltb j below) a h since a′ h′ since′) where
     -- a threshold that was not crossed is still on the same side
     uncrossed : (j : ℕ) → between below is j || between is below j ≡ false → ltb j below ≡ ltb j is
     uncrossed j e = go (ltb j below) refl (ltb j is) refl
@@ -115,41 +115,38 @@ module _ (K I : ℕ) (m : State) (xs : List ℤ) (a h since : List ℕ) (sums : 
         go false p true q = absurd (subst T (ap (λ (b : Bool). b || between is below j) (sym (between-in below is j (ltb-false j below p) (ltb-true j is q))) ∙ e) tt)
         go false p false q = p ∙ sym q
 
-    same-counts : countsBy I low′ end since′ a′ h′ ≡ countsBy I low end since a h
+    same-counts : countsBy threshold thresholds (by .i) low′ end since′ a′ h′ ≡ countsBy threshold thresholds (by .i) low end since a h
     unfolding countsBy
     same-counts =
-        fifteen-same _ _ (λ j l.
-        ap (λ (b : Bool). countOver I b (end - getD since′ j 0) (getD a′ j 0) (getD h′ j 0)) (s .side j l)
-        ∙ stands-count I end (between below is j || between is below j) (ltb j below) (ltb j is) (getD a j 0) (getD h j 0) (getD since j 0) (getD a′ j 0) (getD h′ j 0) (getD since′ j 0) (S .each j) (uncrossed j)
-        ∙ ap (λ (b : Bool). countOver I b (end - getD since j 0) (getD a j 0) (getD h j 0)) (sym (t .sides .side j l)))
+        each-same thresholds _ _ (λ j l.
+        ap (λ (o : Bool). countOver (by .i) o (end - getD since′ j 0) (getD a′ j 0) (getD h′ j 0)) (b .sides .side j l)
+        ∙ stands-count (by .i) end (between below is j || between is below j) (ltb j below) (ltb j is) (getD a j 0) (getD h j 0) (getD since j 0) (getD a′ j 0) (getD h′ j 0) (getD since′ j 0) (S .each-one j) (uncrossed j)
+        ∙ ap (λ (o : Bool). countOver (by .i) o (end - getD since j 0) (getD a j 0) (getD h j 0)) (sym (t .around .sides .side j l)))
 
-    same-hangovers : hangoversBy I low′ end since′ h′ ≡ hangoversBy I low end since h
+    same-hangovers : hangoversBy threshold thresholds (by .i) low′ end since′ h′ ≡ hangoversBy threshold thresholds (by .i) low end since h
     unfolding hangoversBy
     same-hangovers =
-        fifteen-same _ _ (λ j l.
-        ap (λ (b : Bool). hangoverOver I b (end - getD since′ j 0) (getD h′ j 0)) (s .side j l)
-        ∙ stands-hangover I end (between below is j || between is below j) (ltb j below) (ltb j is) (getD a j 0) (getD h j 0) (getD since j 0) (getD a′ j 0) (getD h′ j 0) (getD since′ j 0) (S .each j) (uncrossed j)
-        ∙ ap (λ (b : Bool). hangoverOver I b (end - getD since j 0) (getD h j 0)) (sym (t .sides .side j l)))
+        each-same thresholds _ _ (λ j l.
+        ap (λ (o : Bool). hangoverOver (by .i) o (end - getD since′ j 0) (getD h′ j 0)) (b .sides .side j l)
+        ∙ stands-hangover (by .i) end (between below is j || between is below j) (ltb j below) (ltb j is) (getD a j 0) (getD h j 0) (getD since j 0) (getD a′ j 0) (getD h′ j 0) (getD since′ j 0) (S .each-one j) (uncrossed j)
+        ∙ ap (λ (o : Bool). hangoverOver (by .i) o (end - getD since j 0) (getD h j 0)) (sym (t .around .sides .side j l)))
 
-    pub turned : at < length xs → Turning K I m xs a′ h′ since′ r low′ high′ is end
+    pub turned : at < length xs → Turning by m a₀ h₀ xs a′ h′ since′ r low′ high′ is end
     turned l =
         record {
           within = R .within;
           bounded = R .bounded;
-          total = λ e. more (r .n) (sums .n) (m .sums .n) at end (R .total e) (t .total l) (R .on);
+          total = λ e. more (r .n .0) (sums .n .0) (m .n .0) at end (R .total e) (t .total l) (R .on);
           a-length = S .a-length;
           h-length = S .h-length;
           since-length = S .since-length;
-          index = λ j. index-le I end _ _ _ _ _ _ _ _ (S .each j) (before j);
-          a-max = λ j. count-le I end _ _ _ _ _ _ _ _ (S .each j) (m .sums .n) (before j) (t .a-max j);
-          h-max = λ j. hangover-le I end _ _ _ _ _ _ _ _ (S .each j) (t .h-max j);
-          clear = c;
-          sides = s;
-          low-q = lq;
-          q-high = qh;
+          index = λ j. index-le (by .i) end _ _ _ _ _ _ _ _ (S .each-one j) (before j);
+          a-max = λ j. count-le (by .i) end _ _ _ _ _ _ _ _ (S .each-one j) (m .n .0) (before j) (t .a-max j);
+          h-max = λ j. hangover-le (by .i) end _ _ _ _ _ _ _ _ (S .each-one j) (t .h-max j);
+          around = b;
           rest =
-              ap₂ (λ (x y : List ℕ). led K I (stateOf r x y) (drop end xs)) same-counts same-hangovers
-              ∙ sym (R .same I low since a h (le-refl low) (lt-of-le-of-lt (t .low-q) (t .q-high)) (t .clear) (t .index))
+              ap₂ (λ (x y : List ℕ). led by r x y (drop end xs)) same-counts same-hangovers
+              ∙ sym (R .same low since a h (le-refl low) (lt-of-le-of-lt (t .around .from) (t .around .to)) (t .around .clear) (t .index))
               ∙ t .rest;
         }
       where
@@ -161,32 +158,32 @@ module _ (K I : ℕ) (m : State) (xs : List ℤ) (a h since : List ℕ) (sums : 
 
   -- ---- the end
 
-  module _ (a′ h′ since′ : List ℕ) (S : Settled I at (λ j. between 0 below j || between below 15 j) (λ j. ltb j below) a h since a′ h′ since′) where
-    each-one : (j : ℕ) → j < 15 → between 0 below j || between below 15 j ≡ true
-    each-one j l = go (ltb j below) refl
+  module _ (a′ h′ since′ : List ℕ) (S : Settled thresholds (by .i) at (λ j. between 0 below j || between below thresholds j) (λ j. ltb j below) a h since a′ h′ since′) where
+    settles : (j : ℕ) → j < thresholds → between 0 below j || between below thresholds j ≡ true
+    settles j l = go (ltb j below) refl
       where
-        go : (x : Bool) → ltb j below ≡ x → between 0 below j || between below 15 j ≡ true
-        go true p = ap (λ (b : Bool). b || between below 15 j) (between-in 0 below j (omega arith) (ltb-true j below p))
-        go false p = ap (λ (b : Bool). between 0 below j || b) (between-in below 15 j (ltb-false j below p) l) ∙ or-true (between 0 below j)
+        go : (x : Bool) → ltb j below ≡ x → between 0 below j || between below thresholds j ≡ true
+        go true p = ap (λ (b : Bool). b || between below thresholds j) (between-in 0 below j (omega arith) (ltb-true j below p))
+        go false p = ap (λ (b : Bool). between 0 below j || b) (between-in below thresholds j (ltb-false j below p) l) ∙ or-true (between 0 below j)
 
-    last-counts : a′ ≡ countsBy I low at since a h
+    last-counts : a′ ≡ countsBy threshold thresholds (by .i) low at since a h
     unfolding countsBy
     last-counts =
-        is-fifteen a′ _ (S .a-length) (λ j l.
-        S .each j .count
-        ∙ ap (λ (b : Bool). cond b (countOver I (ltb j below) (at - getD since j 0) (getD a j 0) (getD h j 0)) (getD a j 0)) (each-one j l)
-        ∙ ap (λ (b : Bool). countOver I b (at - getD since j 0) (getD a j 0) (getD h j 0)) (sym (t .sides .side j l)))
+        is-each 0 thresholds a′ _ (S .a-length) (λ j l.
+        S .each-one j .count
+        ∙ ap (λ (b : Bool). cond b (countOver (by .i) (ltb j below) (at - getD since j 0) (getD a j 0) (getD h j 0)) (getD a j 0)) (settles j l)
+        ∙ ap (λ (o : Bool). countOver (by .i) o (at - getD since j 0) (getD a j 0) (getD h j 0)) (sym (t .around .sides .side j l)))
 
-    last-hangovers : h′ ≡ hangoversBy I low at since h
+    last-hangovers : h′ ≡ hangoversBy threshold thresholds (by .i) low at since h
     unfolding hangoversBy
     last-hangovers =
-        is-fifteen h′ _ (S .h-length) (λ j l.
-        S .each j .hangover
-        ∙ ap (λ (b : Bool). cond b (hangoverOver I (ltb j below) (at - getD since j 0) (getD h j 0)) (getD h j 0)) (each-one j l)
-        ∙ ap (λ (b : Bool). hangoverOver I b (at - getD since j 0) (getD h j 0)) (sym (t .sides .side j l)))
+        is-each 0 thresholds h′ _ (S .h-length) (λ j l.
+        S .each-one j .hangover
+        ∙ ap (λ (b : Bool). cond b (hangoverOver (by .i) (ltb j below) (at - getD since j 0) (getD h j 0)) (getD h j 0)) (settles j l)
+        ∙ ap (λ (o : Bool). hangoverOver (by .i) o (at - getD since j 0) (getD h j 0)) (sym (t .around .sides .side j l)))
 
-    pub finished : length xs ≤ at → stateOf sums a′ h′ ≡ led K I m xs
+    pub finished : length xs ≤ at → stateOf sums a′ h′ ≡ led by m a₀ h₀ xs
     finished l =
         ap₂ (λ (x y : List ℕ). stateOf sums x y) last-counts last-hangovers
-        ∙ sym (none-left K I (stateOf sums (countsBy I low at since a h) (hangoversBy I low at since h)) xs at l)
+        ∙ sym (none-left by sums _ _ xs at l)
         ∙ t .rest

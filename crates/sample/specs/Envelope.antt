@@ -2,13 +2,21 @@
 use Prim.Native.Nat.{ℕ, _+_, _-_, _*_, _/_, _^_}
 use lib.IntN.{ℤ, natAbs}
 
+-- K is in parts of this
+abbrev pub smoothing : ℕ
+smoothing = 2 ^ 20
+
+-- one quantizing interval, in units of P and Q
+abbrev pub interval : ℕ
+interval = 2 ^ 24
+
 -- one step of smoothing: floor((old(2^20 − K) + new·K) / 2^20)
 unfoldable pub smooth : (K old new : ℕ) → ℕ
-smooth K old new = (old * (2 ^ 20 - K) + new * K) / 2 ^ 20
+smooth K old new = (old * (smoothing - K) + new * K) / smoothing
 
 -- |x| in units of 2^−24 quantizing interval
 unfoldable pub rectified : ℤ → ℕ
-rectified x = natAbs x * 2 ^ 24
+rectified x = natAbs x * interval
 
 -- threshold c_j in units
 unfoldable pub threshold : ℕ → ℕ

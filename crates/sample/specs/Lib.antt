@@ -1,4 +1,5 @@
 pub mod Activity
 pub mod Envelope
-pub mod Runs
+pub mod Inner
 pub mod Sample
+pub mod StateAfter

@@ -1,10 +1,18 @@
 // The band between two neighbouring thresholds in which the envelope lies.
 ghost use mathlib.Core.Path.{_≡_};
-ghost use Prim.Native.Nat.{_≤_, _<_, _^_, min};
-ghost use Rattle.sample.specs.Runs.{Clear, Below};
+ghost use Prim.Native.Nat.{_≤_, _^_, min};
+ghost use Rattle.level.specs.Types.{thresholds};
+ghost use Rattle.sample.specs.Envelope.{threshold};
+ghost use Rattle.sample.specs.Inner.Runs.{Around};
+use level::THRESHOLDS;
 
-// From low up to, not including, high: no threshold lies between them. So many of the fifteen
-// thresholds are at or below low.
+// The lowest threshold, and its place among the powers of two.
+const LOWEST: u64 = 1 << 24;
+
+const LOWEST_PLACE: u64 = 24;
+
+// From low up to, not including, high: no threshold lies between them. So many of the thresholds are
+// at or below low.
 pub struct Band {
     pub low: u64,
     pub high: u64,
@@ -14,13 +22,12 @@ pub struct Band {
 // The band around an envelope. Thresholds are powers of two from 2^24 on.
 pub fn around(q: u64) -> Band
     requires { ⌜ q ≤ 2 ^ 40 ⌝ }
-    ensures { λ r. ⌜ (Clear (r .low) (r .high)) × (Below (r .low) (r .below)) ⌝ }
-    ensures { λ r. ⌜ (r .low ≤ q) × (q < r .high) ⌝ }
+    ensures { λ r. ⌜ Around threshold thresholds q (r .low) (r .high) (r .below) ⌝ }
 {
-    if q < 16777216 {
+    if q < LOWEST {
         return Band {
             low: 0,
-            high: 16777216,
+            high: LOWEST,
             below: 0,
         };
     }
@@ -29,12 +36,16 @@ pub fn around(q: u64) -> Band
     Band {
         low,
         high: 2 * low,
-        below: up_to_fifteen(place - 23),
+        below: at_most_all(place + 1 - LOWEST_PLACE),
     }
 }
 
-fn up_to_fifteen(x: u64) -> usize
-    ensures { λ r. ⌜ r ≡ min x 15 ⌝ }
+fn at_most_all(x: u64) -> usize
+    ensures { λ r. ⌜ r ≡ min x thresholds ⌝ }
 {
-    if x < 15 { x as usize } else { 15 }
+    if x < THRESHOLDS as u64 {
+        x as usize
+    } else {
+        THRESHOLDS
+    }
 }

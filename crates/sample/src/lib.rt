@@ -6,51 +6,62 @@
 // of the others go on standing as they were, and all are brought up to date at the end.
 mod band;
 mod counters;
+mod plain;
 mod runs;
 mod step;
 
 ghost use mathlib.Core.Path.{_≡_};
-ghost use Prim.Native.Nat.{_+_, _≤_, _<_, _^_};
 ghost use lib.ListN.{length};
-ghost use Rattle.sample.specs.Sample.{samples};
-ghost use Rattle.sample.specs.Runs.{Within};
+ghost use Rattle.sample.specs.Sample.{stateAfter};
+ghost use Rattle.sample.specs.StateAfter.{Within};
+use level::Samples;
 use level::Squares;
+use level::THRESHOLDS;
+
+// The most samples that a measurement may hold.
+pub const MOST_SAMPLES: u64 = 1 << 48;
+
+// What counting goes by: the rate's K and I.
+pub struct Counting {
+    pub k: u64,
+    pub i: u64,
+}
 
 // n, s, sq, P and Q.
 pub struct Sums {
-    pub n: u64,
+    pub n: Samples,
     pub s: i64,
     pub sq: Squares,
     pub p: u64,
     pub q: u64,
 }
 
-// The sums and, for each of the fifteen thresholds, the activity count a and the hangover h.
+// The sums and, for each threshold, the activity count a and the hangover h.
 pub struct State {
     pub sums: Sums,
-    pub a: [u64; 15],
-    pub h: [u64; 15],
+    pub a: [Samples; THRESHOLDS],
+    pub h: [u64; THRESHOLDS],
 }
 
 impl State {
-    // The state after samples in order, at a rate's K and I.
-    pub fn after(self, k: u64, i: u64, xs: &[i16]) -> State
-        requires { ⌜ Within i self ⌝ }
-        requires { ⌜ (k ≤ 2 ^ 20) × (self .sums .n + length (now xs) ≤ 2 ^ 48) ⌝ }
-        ensures { λ r. ⌜ r ≡ samples k i self (now (xs .entry)) ⌝ }
+    // The state after samples in order.
+    pub fn after(self, by: Counting, xs: &[i16]) -> State
+        requires { ⌜ Within by (length (now xs)) self ⌝ }
+        ensures { λ r. ⌜ r ≡ stateAfter by self (now (xs .entry)) ⌝ }
     {
         if xs.len() == 0 {
             return self;
         }
-        let mut a = self.a;
+        let counts = self.a;
+        let mut a = plain::numbers(counts);
         let mut h = self.h;
-        let mut since = [0u64; 15];
+        let mut since = [0u64; THRESHOLDS];
         let before = self.sums;
-        let mut sums = before.step(k, xs[0]);
+        let mut sums = before.step(by, xs[0]);
         let mut band = band::around(sums.q);
         let mut at = 0;
         while at < xs.len() {
-            let run = runs::run_on(sums, k, band, xs, at);
+            let run = runs::run_on(sums, by, band, xs, at);
             at = run.end;
             sums = run.sums;
             let next = band::around(sums.q);
@@ -61,11 +72,12 @@ impl State {
                 band.below,
                 next.below,
                 at as u64,
-                i,
+                by.i,
             );
             band = next;
         }
-        counters::finish(&mut a, &mut h, &mut since, band.below, at as u64, i);
+        counters::finish(&mut a, &mut h, &mut since, band.below, at as u64, by.i);
+        let a = plain::counts(a);
         State { sums, a, h }
     }
 }

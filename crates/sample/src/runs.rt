@@ -1,7 +1,6 @@
 // A run: samples over which the envelope stays in one band.
-ghost use Prim.Native.Nat.{_+_, _-_, _≤_, _<_, _^_};
-ghost use lib.ListN.{length};
-ghost use Rattle.sample.specs.Runs.{BoundedSums, Ran};
+ghost use Rattle.sample.specs.Inner.Runs.{Runnable, Ran};
+use crate::Counting;
 use crate::Sums;
 use crate::band::Band;
 
@@ -14,22 +13,21 @@ pub struct Run {
 
 // From the sums after the sample at index `at`, whose envelope is in the band, over the samples after
 // it, while the envelope stays in the band.
-pub fn run_on(first: Sums, k: u64, band: Band, xs: &[i16], at: usize) -> Run
-    requires { ⌜ (BoundedSums first) × ((band .low ≤ first .q) × (first .q < band .high)) ⌝ }
-    requires { ⌜ (k ≤ 2 ^ 20) × ((at < length (now xs)) × (first .n + (length (now xs) - (at + 1)) ≤ 2 ^ 48)) ⌝ }
-    ensures { λ r. ⌜ Ran k (band .low) (band .high) first (now (xs .entry)) at (r .sums) (r .end) ⌝ }
+pub fn run_on(first: Sums, by: Counting, band: Band, xs: &[i16], at: usize) -> Run
+    requires { ⌜ Runnable by first (band .low) (band .high) (now xs) at ⌝ }
+    ensures { λ r. ⌜ Ran by (band .low) (band .high) first (now (xs .entry)) at (r .sums) (r .end) ⌝ }
 {
     let mut sums = first;
-    let mut i = at + 1;
-    while i < xs.len() {
-        sums = sums.step(k, xs[i]);
+    let mut next = at + 1;
+    while next < xs.len() {
+        sums = sums.step(by, xs[next]);
         if sums.q < band.low {
-            return Run { sums, end: i };
+            return Run { sums, end: next };
         }
         if band.high <= sums.q {
-            return Run { sums, end: i };
+            return Run { sums, end: next };
         }
-        i += 1;
+        next += 1;
     }
-    Run { sums, end: i }
+    Run { sums, end: next }
 }

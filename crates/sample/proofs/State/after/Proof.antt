@@ -1,8 +1,9 @@
 -- The invariant is `Turning`: the counters stand for where the definition's are, and the rest of the samples lead to what all of them lead to.
 use borrow.Author.Needs.{needs}
-use mathlib.Core.List.{List, [], _∷_}
+use mathlib.Core.Bool.{Bool}
+use mathlib.Core.List.{List, [], _∷_, map}
 use mathlib.Core.Path.{_≡_, refl, ap, _∙_, subst, sym}
-use Prim.Native.Nat.{ℕ, _+_, _-_, _^_, _≤_, _<_}
+use Prim.Native.Nat.{ℕ, _+_, _-_, _≤_, _<_}
 use native.Mathlib.Nat.{pos-of-ne-zero}
 use native.Mathlib.Omega.{arith}
 use lib.IntN.{ℤ, pos}
@@ -10,148 +11,202 @@ use lib.ListN.{length, getD}
 use mir.Syntax.{w16}
 use mir.Val.{SFits}
 use mir.Facts.{toZ-ofZ}
+use Rattle.level.specs.Types.{samplesOf, thresholds}
+use Rattle.level.specs.declared.Samples.{Samples}
+use Rattle.sample.specs.declared.Counting.{Counting}
 use Rattle.sample.specs.declared.State.{State}
 use Rattle.sample.specs.declared.Sums.{Sums}
-use Rattle.sample.specs.Sample.{summed, samples}
-use Rattle.sample.specs.Runs.{BoundedSums, stateOf}
-use Rattle.sample.proofs.Fifteen.{at-or-past}
+use Rattle.sample.specs.Sample.{mostSamples, listFrom, summed, stateAfter}
+use Rattle.sample.specs.StateAfter.{BoundedSums}
+use Rattle.sample.specs.Inner.Runs.{Settled, numbersOf, stateOf}
 use Rattle.sample.proofs.Kept.{sums-kept}
+use Rattle.sample.proofs.Numbers.{typed-again, number-at}
+use Rattle.sample.proofs.Places.{at-or-past}
 use Rattle.sample.proofs.Ran.{step-is}
 use Rattle.sample.proofs.Turning.{Turning, started, room-left, standing, turned, finished}
 use Rattle.sample.proofs.State.after.Statement.{statement}
 use Rattle.sample.proofs.State.after.Tie as tie
 
 abbrev Inv-loop : tie.InvT-loop
-Inv-loop k i xs a₀ h₀ since₀ sums₀ band₀ at₀ a h since sums band at =
-    Turning k i (stateOf sums₀ a₀ h₀) xs a h since sums (band .low) (band .high) (band .below) at
+Inv-loop by xs a₀ h₀ since₀ sums₀ band₀ at₀ a h since sums band at =
+    Turning by sums₀ a₀ h₀ xs a h since sums (band .low) (band .high) (band .below) at
 
 abbrev μ-loop : tie.MeasureT-loop
-μ-loop k i xs a₀ h₀ since₀ sums₀ band₀ at₀ a h since sums band at = length xs - at
+μ-loop by xs a₀ h₀ since₀ sums₀ band₀ at₀ a h since sums band at = length xs - at
 
-empty : (K I : ℕ) (m : State) (xs : List ℤ) → length xs ≡ 0 → m ≡ samples K I m xs
-unfolding samples
-empty K I m [] e = refl
-empty K I m (x ∷ xs) e = absurd (omega (arith, e))
+-- ---- points of the code
+
+abbrev filled-at : tie.After-step Inv-loop μ-loop → tie.Else1 Inv-loop μ-loop
+filled-at c = c .before .before .before .before .before .before
+
+abbrev start-at : tie.After-step Inv-loop μ-loop → tie.Start Inv-loop μ-loop
+start-at c = filled-at c .before
+
+abbrev numbers-at : tie.After-step Inv-loop μ-loop → tie.After-numbers Inv-loop μ-loop
+numbers-at c = c .before .before .before .before
+
+abbrev ran-at : tie.After-since Inv-loop μ-loop → tie.After-run-on Inv-loop μ-loop
+ran-at c = c .before .before .before .before .before
+
+-- ---- no sample
+
+empty : (by : Counting) (m : State) (xs : List ℤ) → length xs ≡ 0 → m ≡ stateAfter by m xs
+unfolding stateAfter
+empty by m [] e = refl
+empty by m (x ∷ xs) e = absurd (omega (arith, e))
 
 returns : tie.Need-returns Inv-loop μ-loop
-returns c = empty _ _ _ _ (c .if1 .taken)
+returns c = empty _ _ _ (c .if1 .taken)
 
 -- ---- the first sample: there is one, it fits, and the sums after it are bounded
 
 some-sample : (c : tie.Else1 Inv-loop μ-loop) → 0 < length (c .before .args .xs .now)
 some-sample c = pos-of-ne-zero (c .if1 .left)
 
-first-fits : (c : tie.After-step-arg Inv-loop μ-loop) → SFits w16 (getD (c .before .before .before .before .before .args .xs .now) 0 (pos 0))
-first-fits c = record { sfits = c .step-arg .given }
+first-fits : (c : tie.After-step Inv-loop μ-loop) → SFits w16 (getD (start-at c .args .xs .now) 0 (pos 0))
+first-fits c = record { sfits = c .before .step-arg .given }
 
-first-room : (n l : ℕ) → 0 < l → n + l ≤ 2 ^ 48 → n < 2 ^ 48
+first-room : (n l : ℕ) → 0 < l → n + l ≤ mostSamples → n < mostSamples
 first-room n l h k = omega arith
 
-stepped : (c : tie.After-step Inv-loop μ-loop)
-    → c .step .result ≡ summed (c .before .before .before .before .before .before .args .k) (c .before .before .before .before .before .before .args .self .sums) (getD (c .before .before .before .before .before .before .args .xs .now) 0 (pos 0))
-stepped c = c .step .ensures ∙ ap (summed _ _) (toZ-ofZ (first-fits (c .before)))
+stepped : (c : tie.After-step Inv-loop μ-loop) → c .step .result ≡ summed (start-at c .args .by .k) (start-at c .args .self .sums) (getD (start-at c .args .xs .now) 0 (pos 0))
+stepped c = c .step .ensures ∙ ap (summed _ _) (toZ-ofZ (first-fits c))
 
 first-bounded : (c : tie.After-step Inv-loop μ-loop) → BoundedSums (c .step .result)
 first-bounded c =
-    let s = c .before .before .before .before .before .before in
+    let s = start-at c in
     subst BoundedSums (sym (stepped c))
-    (sums-kept (s .args .k) (s .args .self .sums) _ (s .pre .1 .0) (first-room _ _ (some-sample (c .before .before .before .before .before)) (s .pre .1 .1)) (first-fits (c .before)) (s .pre .0 .sums))
+    (sums-kept (s .args .by .k) (s .args .self .sums) _ (s .pre .k-max) (first-room _ _ (some-sample (filled-at c)) (s .pre .room)) (first-fits c) (s .pre .sums))
 
-first-n : (c : tie.After-step Inv-loop μ-loop) → c .step .result .n ≡ c .before .before .before .before .before .before .args .self .sums .n + 1
+first-n : (c : tie.After-step Inv-loop μ-loop) → c .step .result .n .0 ≡ start-at c .args .self .sums .n .0 + 1
 unfolding summed
-first-n c = ap (λ (t : Sums). t .n) (stepped c)
+first-n c = ap (λ (t : Sums). t .n .0) (stepped c)
 
 -- all samples, counted from the sums after the first
-all-fit : (c : tie.After-around Inv-loop μ-loop)
-    → c .before .step .result .n + length (c .before .before .before .before .before .before .before .args .xs .now) ≤ 2 ^ 48 + 1
-all-fit c = more _ _ _ (first-n (c .before)) (c .before .before .before .before .before .before .before .pre .1 .1)
+all-fit : (c : tie.After-step Inv-loop μ-loop) → c .step .result .n .0 + length (start-at c .args .xs .now) ≤ mostSamples + 1
+all-fit c = more _ _ _ (first-n c) (start-at c .pre .room)
   where
-    more : (r n l : ℕ) → r ≡ n + 1 → n + l ≤ 2 ^ 48 → r + l ≤ 2 ^ 48 + 1
+    more : (r n l : ℕ) → r ≡ n + 1 → n + l ≤ mostSamples → r + l ≤ mostSamples + 1
     more r n l e h = omega arith
 
+numbers-requires : tie.Need-numbers-requires Inv-loop μ-loop
+numbers-requires c κs = search needs
+
 shared-slice-copy-out-step : tie.Need-shared-slice-copy-out-step Inv-loop μ-loop
-shared-slice-copy-out-step c = some-sample (c .before .before .before)
+shared-slice-copy-out-step c = some-sample (c .before .before .before .before)
 
 step-requires : tie.Need-step-requires Inv-loop μ-loop
 step-requires c κs =
-    let s = c .before .before .before .before .before in
-    (s .pre .0 .sums, (s .pre .1 .0, first-room _ _ (some-sample (c .before .before .before .before)) (s .pre .1 .1)))
+    let f = c .before .before .before .before .before in
+    let p = f .before .pre in
+    record { bounded = p .sums; k-max = p .k-max; room = first-room _ _ (some-sample f) (p .room) }
 
 around-requires : tie.Need-around-requires Inv-loop μ-loop
 around-requires c κs = first-bounded c .q-max
 
--- both arrays have their lengths
-a-length : (c : tie.After-step Inv-loop μ-loop) → length (c .before .before .before .before .before .before .args .self .a) ≡ 15
-a-length c = search needs
+-- ---- the counters at first: the arrays have their lengths, and the counts are the state's
 
-h-length : (c : tie.After-step Inv-loop μ-loop) → length (c .before .before .before .before .before .before .args .self .h) ≡ 15
+h-length : (c : tie.After-step Inv-loop μ-loop) → length (start-at c .args .self .h) ≡ thresholds
 h-length c = search needs
+
+numbers-are : (c : tie.After-step Inv-loop μ-loop) → numbers-at c .numbers .result ≡ numbersOf (start-at c .args .self .a)
+numbers-are c = numbers-at c .numbers .ensures .are
+
+numbers-length : (c : tie.After-step Inv-loop μ-loop) → length (numbers-at c .numbers .result) ≡ thresholds
+numbers-length c = numbers-at c .numbers .ensures .many
+
+numbers-max : (c : tie.After-step Inv-loop μ-loop) (j : ℕ) → j < thresholds → getD (numbers-at c .numbers .result) j 0 ≤ start-at c .args .self .sums .n .0
+numbers-max c j l =
+    subst (λ (x : List ℕ). getD x j 0 ≤ start-at c .args .self .sums .n .0) (sym (numbers-are c))
+    (subst (λ (x : ℕ). x ≤ start-at c .args .self .sums .n .0) (sym (number-at (start-at c .args .self .a) j)) (start-at c .pre .a-max j l))
 
 -- ---- the loop
 
 loop-holds : tie.Need-loop-holds Inv-loop μ-loop
-unfolding Rattle.sample.specs.Sample.fifteen Rattle.sample.specs.Sample.listFrom
+unfolding listFrom
 loop-holds c =
     let f = c .before in
-    let s = f .before .before .before .before .before .before in
-    let b = c .around .ensures in
-    let la = a-length f in
+    let s = start-at f in
     let lh = h-length f in
-    started (s .args .k) (s .args .i) (stateOf (f .step .result) (s .args .self .a) (s .args .self .h)) (s .args .xs .now) _ _ _ (first-bounded f) (sym la) (sym lh)
-    (λ j. omega (arith, first-n f, at-or-past (s .args .self .a) (s .args .self .sums .n) la (s .pre .0 .a-max) j))
-    (at-or-past (s .args .self .h) (s .args .i) lh (s .pre .0 .h-max))
-    (b .0 .0) (b .0 .1) (b .1 .0) (b .1 .1)
+    started (s .args .by) (f .step .result) (numbers-at f .numbers .result) (s .args .self .h) (s .args .xs .now) _ _ _ (first-bounded f) (sym (numbers-length f)) (sym lh)
+    (λ j. omega (arith, first-n f, at-or-past (numbers-at f .numbers .result) thresholds (s .args .self .sums .n .0) (numbers-length f) (numbers-max f) j))
+    (at-or-past (s .args .self .h) thresholds (s .args .by .i) lh (s .pre .h-max))
+    (c .around .ensures)
 
 run-on-requires : tie.Need-run-on-requires Inv-loop μ-loop
 run-on-requires c κs =
-    let l = c .before .loop in
-    let f = c .before .before in
-    let s = f .before .before .before .before .before .before .before in
-    let t = c .loop-test .taken in (
-      (l .inv .bounded, (l .inv .low-q, l .inv .q-high)),
-      (s .pre .1 .0, (t, room-left _ _ _ _ _ _ _ _ _ _ _ _ (l .inv) (all-fit f) t)),
-    )
+    let i = c .before .loop .inv in
+    let f = c .before .before .before in
+    let t = c .loop-test .taken in
+    record {
+      bounded = i .bounded;
+      from = i .around .from;
+      to = i .around .to;
+      k-max = start-at f .pre .k-max;
+      some = t;
+      room = room-left _ _ _ _ _ _ _ _ _ _ _ _ _ i (all-fit f) t;
+    }
 
 around-requires-2 : tie.Need-around-requires-2 Inv-loop μ-loop
 around-requires-2 c κs = c .before .run-on .ensures .bounded .q-max
 
 cross-requires : tie.Need-cross-requires Inv-loop μ-loop
 cross-requires c κs =
-    let r = c .before .before .before .before .before in
-    let l = r .before .before .loop in
-    let e = r .run-on .ensures in (
-      standing _ _ _ _ _ _ _ _ _ _ _ _ (l .inv) (all-fit (r .before .before .before)) (r .run-on .result .end) (omega (arith, e .on)) (e .within),
-      (l .inv .sides .at-most, c .before .before .before .around2 .ensures .0 .1 .at-most),
-    )
+    let r = ran-at c in
+    let i = r .before .before .loop .inv in
+    let e = r .run-on .ensures in
+    record {
+      standing = standing _ _ _ _ _ _ _ _ _ _ _ _ _ i (all-fit (r .before .before .before .before)) (r .run-on .result .end) (omega (arith, e .on)) (e .within);
+      was-max = i .around .sides .at-most;
+      is-max = c .before .before .before .around2 .ensures .sides .at-most;
+    }
 
 fall : (l i end : ℕ) → i < end → end ≤ l → l - end < l - i
 fall l i end h k = omega arith
 
 loop-less : tie.Need-loop-less Inv-loop μ-loop
-loop-less c = let r = c .before .before .before .before .before .before .run-on in fall _ _ (r .result .end) (r .ensures .on) (r .ensures .within)
+loop-less c = let r = ran-at (c .before) .run-on in fall _ _ (r .result .end) (r .ensures .on) (r .ensures .within)
 
 loop-again : tie.Need-loop-again Inv-loop μ-loop
 loop-again c =
-    let r = c .before .before .before .before .before .before in
-    let l = r .before .before .loop in
-    let b = c .before .before .before .before .around2 .ensures in
-    turned _ _ _ _ _ _ _ _ _ _ _ _ (l .inv) (all-fit (r .before .before .before)) (r .run-on .result .sums) (r .run-on .result .end) _ _ _ (r .run-on .ensures)
-    (b .0 .0) (b .0 .1) (b .1 .0) (b .1 .1) _ _ _ (c .cross .ensures) (r .before .loop-test .taken)
+    let r = ran-at (c .before) in
+    turned _ _ _ _ _ _ _ _ _ _ _ _ _ (r .before .before .loop .inv) (all-fit (r .before .before .before .before)) (r .run-on .result .sums) (r .run-on .result .end) _ _ _ (r .run-on .ensures)
+    (c .before .before .before .before .around2 .ensures) _ _ _ (c .cross .ensures) (r .before .loop-test .taken)
 
 finish-requires : tie.Need-finish-requires Inv-loop μ-loop
 finish-requires c κs =
-    let o = c .before .before .before in
-    let l = o .before .loop in
-    (standing _ _ _ _ _ _ _ _ _ _ _ _ (l .inv) (all-fit (o .before .before)) (l .at) (omega arith) (l .inv .within), l .inv .sides .at-most)
+    let l = c .before .before .before .before in
+    let i = l .loop .inv in
+    record {
+      standing = standing _ _ _ _ _ _ _ _ _ _ _ _ _ i (all-fit (l .before .before)) (l .loop .at) (omega arith) (i .within);
+      was-max = i .around .sides .at-most;
+      is-max = omega arith;
+    }
+
+counts-requires : tie.Need-counts-requires Inv-loop μ-loop
+counts-requires c κs = search needs
+
+-- ---- the end: what the samples lead to from plain counts is what they lead to from the state
+
+-- the counts that settling left
+abbrev counts-of : {k I at : ℕ} {one on : ℕ → Bool} {a h s a′ h′ s′ : List ℕ} → Settled k I at one on a h s a′ h′ s′ → List ℕ
+counts-of {a′ = a′} S = a′
+
+typed : (m : Sums) (a h : List ℕ) (r : List Samples) → r ≡ map samplesOf a → record { sums = m; a = r; h = h } ≡ stateOf m a h
+typed m a h r e = ap (λ (x : List Samples). record { sums = m; a = x; h = h }) e
 
 returns-2 : tie.Need-returns-2 Inv-loop μ-loop
 returns-2 c =
-    let o = c .before .before .before .before in
-    let l = o .before .loop in
-    let f = o .before .before .before in
-    let s = f .before .before .before .before .before .before in
-    finished _ _ _ _ _ _ _ _ _ _ _ _ (l .inv) (all-fit (o .before .before)) _ _ _ (c .finish .ensures) (o .loop-test .left)
-    ∙ sym (step-is (s .args .k) (s .args .i) (s .args .self .sums) (f .step .result) (s .args .self .a) (s .args .self .h) (s .args .xs .now) 0 (some-sample (f .before .before .before .before .before)) (stepped f))
+    let n = c .before in
+    let o = n .before .before .before .before in
+    let l = o .before in
+    let f = l .before .before in
+    let s = start-at f in
+    typed (l .loop .sums) (counts-of (n .finish .ensures)) _ _ (c .counts2 .ensures)
+    ∙ finished _ _ _ _ _ _ _ _ _ _ _ _ _ (l .loop .inv) (all-fit f) _ _ _ (n .finish .ensures) (o .loop-test .left)
+    ∙ sym (step-is (s .args .by) (s .args .self .sums) (f .step .result) (numbers-at f .numbers .result) (s .args .self .h) (s .args .xs .now) 0 (some-sample (filled-at f)) (stepped f))
+    ∙ ap (λ (x : List Samples). stateAfter (s .args .by) (record { sums = s .args .self .sums; a = x; h = s .args .self .h }) (s .args .xs .now))
+    (ap (λ (x : List ℕ). map samplesOf x) (numbers-are f) ∙ typed-again (s .args .self .a))
 
 pub after-spec : {M : Type 1} → statement M
 after-spec =
@@ -160,6 +215,7 @@ after-spec =
     Inv-loop
     μ-loop
     returns
+    numbers-requires
     shared-slice-copy-out-step
     step-requires
     around-requires
@@ -170,4 +226,5 @@ after-spec =
     loop-less
     loop-again
     finish-requires
+    counts-requires
     returns-2)

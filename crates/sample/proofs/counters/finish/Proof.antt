@@ -5,7 +5,8 @@ use mathlib.Core.Bool.{true, false}
 use mathlib.Core.Path.{sym}
 use native.Mathlib.Omega.{arith}
 use lib.Dec.{ltb}
-use Rattle.sample.specs.Runs.{between}
+use Rattle.level.specs.Types.{thresholds}
+use Rattle.sample.specs.Inner.Runs.{between}
 use Rattle.sample.proofs.Settling.{in-between, apart, twice, still-standing}
 use Rattle.sample.proofs.counters.finish.Statement.{statement}
 use Rattle.sample.proofs.counters.finish.Tie as tie
@@ -14,16 +15,16 @@ settle-requires : tie.Need-settle-requires
 settle-requires c κs = search needs
 
 settle-requires-2 : tie.Need-settle-requires-2
-settle-requires-2 c κs = (still-standing _ _ _ _ _ _ _ _ _ _ (c .before .before .before .before .before .before .before .pre .0) (c .before .before .before .settle .ensures), omega arith)
+settle-requires-2 c κs = (still-standing _ _ _ _ _ _ _ _ _ _ _ (c .before .before .before .before .before .before .before .pre .standing) (c .before .before .before .settle .ensures), omega arith)
 
 returns : tie.Need-returns
 returns c =
     let s = c .before .before .before .before .before .before .before .before in
     let was = s .args .was in
-    twice _ _ (λ j. between 0 was j) (λ j. between was 15 j) (λ _. true) (λ _. false) (λ j. ltb j was) _ _ _ _ _ _ _ _ _
-    (λ j e. apart was 15 j (λ b. absurd (omega (arith, in-between 0 was j e .1, b .0))))
+    twice _ _ _ (λ j. between 0 was j) (λ j. between was thresholds j) (λ _. true) (λ _. false) (λ j. ltb j was) _ _ _ _ _ _ _ _ _
+    (λ j e. apart was thresholds j (λ b. absurd (omega (arith, in-between 0 was j e .1, b .0))))
     (λ j e. sym (lt-ltb j was (in-between 0 was j e .1)))
-    (λ j e. sym (le-ltb j was (in-between was 15 j e .0)))
+    (λ j e. sym (le-ltb j was (in-between was thresholds j e .0)))
     (c .before .before .before .before .settle .ensures)
     (c .settle2 .ensures)
 

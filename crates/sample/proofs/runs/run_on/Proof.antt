@@ -2,45 +2,46 @@
 use borrow.Author.Needs.{needs}
 use mathlib.Core.Path.{_≡_, ap, _∙_}
 use Prim.Native.Nat.{_-_}
+use native.Mathlib.Omega.{arith}
 use lib.IntN.{pos}
 use lib.ListN.{length, getD}
 use mir.Syntax.{w16}
 use mir.Val.{SFits}
 use mir.Facts.{toZ-ofZ}
 use Rattle.sample.specs.Sample.{summed}
-use Rattle.sample.specs.Runs.{Ran}
+use Rattle.sample.specs.Inner.Runs.{Ran}
 use Rattle.sample.proofs.Ran.{Going, begun, ended, room-in, gone-out, gone-on}
 use Rattle.sample.proofs.runs.run_on.Statement.{statement}
 use Rattle.sample.proofs.runs.run_on.Tie as tie
 
 abbrev Inv-loop : tie.InvT-loop
-Inv-loop k band xs at sums₀ i₀ sums i = Going k (band .low) (band .high) sums₀ xs at sums i
+Inv-loop by band xs at sums₀ next₀ sums next = Going by (band .low) (band .high) sums₀ xs at sums next
 
 abbrev μ-loop : tie.MeasureT-loop
-μ-loop k band xs at sums₀ i₀ sums i = length xs - i
+μ-loop by band xs at sums₀ next₀ sums next = length xs - next
 
 -- the sample at i, and the sums after it
-fits : (c : tie.After-step-arg Inv-loop μ-loop) → SFits w16 (getD (c .before .before .before .args .xs .now) (c .before .before .loop .i) (pos 0))
+fits : (c : tie.After-step-arg Inv-loop μ-loop) → SFits w16 (getD (c .before .before .before .args .xs .now) (c .before .before .loop .next) (pos 0))
 fits c = record { sfits = c .step-arg .given }
 
 stepped : (c : tie.After-step Inv-loop μ-loop)
-    → c .step .result ≡ summed (c .before .before .before .before .args .k) (c .before .before .before .loop .sums) (getD (c .before .before .before .before .args .xs .now) (c .before .before .before .loop .i) (pos 0))
+    → c .step .result ≡ summed (c .before .before .before .before .args .by .k) (c .before .before .before .loop .sums) (getD (c .before .before .before .before .args .xs .now) (c .before .before .before .loop .next) (pos 0))
 stepped c = c .step .ensures ∙ ap (summed _ _) (toZ-ofZ (fits (c .before)))
 
 out : (c : tie.After-step Inv-loop μ-loop)
-    → Ran (c .before .before .before .before .args .k) (c .before .before .before .before .args .band .low) (c .before .before .before .before .args .band .high) (c .before .before .before .before .args .first)
-    (c .before .before .before .before .args .xs .now) (c .before .before .before .before .args .at) (c .step .result) (c .before .before .before .loop .i)
+    → Ran (c .before .before .before .before .args .by) (c .before .before .before .before .args .band .low) (c .before .before .before .before .args .band .high) (c .before .before .before .before .args .first)
+    (c .before .before .before .before .args .xs .now) (c .before .before .before .before .args .at) (c .step .result) (c .before .before .before .loop .next)
 out c =
     let l = c .before .before .before .loop in
     let s = c .before .before .before .before in
-    gone-out (s .args .k) _ _ (s .args .first) (s .args .xs .now) (s .args .at) (l .sums) _ (l .i) (l .inv) (s .pre .1 .0) (s .pre .1 .1 .1)
+    gone-out (s .args .by) _ _ (s .args .first) (s .args .xs .now) (s .args .at) (s .pre) (l .sums) _ (l .next) (l .inv)
     (c .before .before .loop-test .taken) (fits (c .before)) (stepped c)
 
-add-i : tie.Need-add-i Inv-loop μ-loop
-add-i c = search needs
+add-next : tie.Need-add-next Inv-loop μ-loop
+add-next c = search needs
 
 loop-holds : tie.Need-loop-holds Inv-loop μ-loop
-loop-holds c = begun (c .args .k) _ _ (c .args .first) (c .args .xs .now) (c .args .at) (c .pre .1 .1 .0) (c .pre .0 .0) (c .pre .0 .1 .0) (c .pre .0 .1 .1)
+loop-holds c = begun (c .args .by) _ _ (c .args .first) (c .args .xs .now) (c .args .at) (c .pre)
 
 mul-step : tie.Need-mul-step Inv-loop μ-loop
 mul-step c = search needs
@@ -52,7 +53,7 @@ step-requires : tie.Need-step-requires Inv-loop μ-loop
 step-requires c κs =
     let l = c .before .before .loop in
     let s = c .before .before .before in
-    (l .inv .bounded, (s .pre .1 .0, room-in (l .inv) (c .before .loop-test .taken) (s .pre .1 .1 .1)))
+    record { bounded = l .inv .bounded; k-max = s .pre .k-max; room = room-in (l .inv) (c .before .loop-test .taken) (s .pre .room) }
 
 returns : tie.Need-returns Inv-loop μ-loop
 returns c = out (c .before .before .before)
@@ -60,8 +61,10 @@ returns c = out (c .before .before .before)
 returns-2 : tie.Need-returns-2 Inv-loop μ-loop
 returns-2 c = out (c .before .before .before .before .before .before)
 
-add-i-2 : tie.Need-add-i-2 Inv-loop μ-loop
-add-i-2 c = search needs
+add-next-2 : tie.Need-add-next-2 Inv-loop μ-loop
+add-next-2 c =
+    let i = c .before .before .before .before .before .before .before .before in
+    record { fits = omega (arith, i .loop-test .taken, i .before .before .good .1 .1 .1 .0 .0) }
 
 loop-less : tie.Need-loop-less Inv-loop μ-loop
 loop-less c = search needs
@@ -71,7 +74,7 @@ loop-again c =
     let st = c .before .before .before .before .before .before in
     let l = st .before .before .before .loop in
     let s = st .before .before .before .before in
-    gone-on (s .args .k) _ _ (s .args .first) (s .args .xs .now) (s .args .at) (l .sums) _ (l .i) (l .inv) (s .pre .1 .0) (s .pre .1 .1 .1)
+    gone-on (s .args .by) _ _ (s .args .first) (s .args .xs .now) (s .args .at) (s .pre) (l .sums) _ (l .next) (l .inv)
     (st .before .before .loop-test .taken) (fits (st .before)) (stepped st) (c .before .before .before .if1 .left) (c .if2 .left)
 
 returns-3 : tie.Need-returns-3 Inv-loop μ-loop
@@ -83,14 +86,14 @@ run-on-spec =
     (tie.spec
     Inv-loop
     μ-loop
-    add-i
+    add-next
     loop-holds
     mul-step
     shared-slice-copy-out-step
     step-requires
     returns
     returns-2
-    add-i-2
+    add-next-2
     loop-less
     loop-again
     returns-3)

@@ -19,7 +19,7 @@ magnitude-requires c κs = search needs
 returns : tie.Need-returns
 returns c =
     let e = c .magnitude .ensures ∙ ap natAbs (wide (c .before .fits .x)) in
-    (e, subst (λ (r : ℕ). r ≤ 2 ^ 15) (sym e) (small (c .before .args .x) (c .before .fits .x)))
+    record { is = e; small = subst (λ (r : ℕ). r ≤ 2 ^ 15) (sym e) (small (c .before .args .x) (c .before .fits .x)) }
 
 pub rectified-spec : {M : Type 1} → statement M
 rectified-spec = tie.close (tie.spec cast-magnitude magnitude-requires returns)

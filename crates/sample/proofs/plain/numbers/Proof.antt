@@ -1,0 +1,73 @@
+-- A map, place by place.
+use borrow.Author.Needs.{needs}
+use mathlib.Core.Path.{refl, ap, _∙_}
+use Prim.Native.Nat.{ℕ, _-_}
+use native.Mathlib.Omega.{arith}
+use lib.ListN.{length}
+use Rattle.level.specs.declared.Samples.{Samples}
+use Rattle.level.specs.Types.{samplesOf, thresholds}
+use Rattle.sample.proofs.Front.{Mapped, turn, done}
+use Rattle.sample.proofs.Numbers.{map-length}
+use Rattle.sample.proofs.plain.numbers.Statement.{statement}
+use Rattle.sample.proofs.plain.numbers.Tie as tie
+
+abbrev number : Samples → ℕ
+number n = n .0
+
+abbrev Inv-loop : tie.InvT-loop
+Inv-loop a numbers₀ j₀ numbers j = Mapped number thresholds a numbers₀ numbers j
+
+abbrev μ-loop : tie.MeasureT-loop
+μ-loop a numbers₀ j₀ numbers j = thresholds - j
+
+loop-holds : tie.Need-loop-holds Inv-loop μ-loop
+loop-holds c = record { below = omega arith; many = search needs; room = refl; so-far = refl }
+
+mul-count : tie.Need-mul-count Inv-loop μ-loop
+mul-count c = search needs
+
+array-copy-out-count : tie.Need-array-copy-out-count Inv-loop μ-loop
+array-copy-out-count c = search needs
+
+count-requires : tie.Need-count-requires Inv-loop μ-loop
+count-requires c κs = search needs
+
+mul-numbers : tie.Need-mul-numbers Inv-loop μ-loop
+mul-numbers c = search needs
+
+array-write-numbers : tie.Need-array-write-numbers Inv-loop μ-loop
+array-write-numbers c = search needs
+
+add-j : tie.Need-add-j Inv-loop μ-loop
+add-j c = search needs
+
+loop-less : tie.Need-loop-less Inv-loop μ-loop
+loop-less c = search needs
+
+loop-again : tie.Need-loop-again Inv-loop μ-loop
+loop-again c =
+    let l = c .before .before .before in
+    turn number (samplesOf 0) thresholds _ _ (l .loop .numbers) (l .loop .j) _ (c .before .before .loop-test .taken) (l .loop .inv) (c .count .ensures)
+
+returns : tie.Need-returns Inv-loop μ-loop
+returns c =
+    let l = c .before .loop in
+    let e = done number thresholds _ _ (l .numbers) (l .j) (l .inv) (c .loop-test .left) in
+    record { are = e; many = ap length e ∙ map-length number (c .before .before .args .t1) ∙ l .inv .many }
+
+pub numbers-spec : {M : Type 1} → statement M
+numbers-spec =
+    tie.close
+    (tie.spec
+    Inv-loop
+    μ-loop
+    loop-holds
+    mul-count
+    array-copy-out-count
+    count-requires
+    mul-numbers
+    array-write-numbers
+    add-j
+    loop-less
+    loop-again
+    returns)

@@ -1,0 +1,3 @@
+-- What the functions inside this crate promise one another. Nothing here is part of what a meter promises.
+pub mod Runs
+pub mod Steps

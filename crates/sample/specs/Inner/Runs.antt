@@ -1,0 +1,135 @@
+-- What the functions inside this crate promise one another about runs of samples. Counts are plain numbers here. c are the thresholds and k is how
+-- many there are.
+use mathlib.Core.Bool.{Bool, cond, _&&_}
+use mathlib.Core.List.{List, [], _∷_, map}
+use mathlib.Core.Logic.{_⊎_}
+use mathlib.Core.Path.{_≡_}
+use Prim.Native.Nat.{ℕ, zero, suc, _+_, _-_, _^_, _≤_, _<_}
+use lib.Dec.{leb, ltb}
+use lib.IntN.{ℤ}
+use lib.ListN.{length, getD, drop}
+use Rattle.level.specs.declared.Samples.{Samples}
+use Rattle.level.specs.Types.{samplesOf, thresholds}
+use Rattle.sample.specs.declared.Counting.{Counting}
+use Rattle.sample.specs.declared.Sums.{Sums}
+use Rattle.sample.specs.declared.State.{State}
+use Rattle.sample.specs.Activity.{counted, hung}
+use Rattle.sample.specs.Envelope.{smoothing, threshold}
+use Rattle.sample.specs.Sample.{mostSamples, each, hangovers, stateAfter}
+use Rattle.sample.specs.StateAfter.{BoundedSums}
+
+-- one counter after d samples on the same side of its threshold
+unfoldable pub hangoverOver : (I : ℕ) (on : Bool) (d h : ℕ) → ℕ
+hangoverOver I on zero h = h
+hangoverOver I on (suc d) h = hung I on (hangoverOver I on d h)
+
+unfoldable pub countOver : (I : ℕ) (on : Bool) (d a h : ℕ) → ℕ
+countOver I on zero a h = a
+countOver I on (suc d) a h = counted I on (countOver I on d a h) (hangoverOver I on d h)
+
+-- the counts after a sample that left the envelope at Q
+unfoldable pub plainCounts : (c : ℕ → ℕ) (k I Q : ℕ) (a h : List ℕ) → List ℕ
+plainCounts c k I Q a h = each k (λ j. counted I (leb (c j) Q) (getD a j 0) (getD h j 0))
+
+-- the counters at index i, where counter j stands as it was at index since_j and the envelope has been on Q's side of its threshold from there on
+unfoldable pub countsBy : (c : ℕ → ℕ) (k I Q i : ℕ) (since a h : List ℕ) → List ℕ
+countsBy c k I Q i since a h = each k (λ j. countOver I (leb (c j) Q) (i - getD since j 0) (getD a j 0) (getD h j 0))
+
+unfoldable pub hangoversBy : (c : ℕ → ℕ) (k I Q i : ℕ) (since h : List ℕ) → List ℕ
+hangoversBy c k I Q i since h = each k (λ j. hangoverOver I (leb (c j) Q) (i - getD since j 0) (getD h j 0))
+
+-- counters that can be settled at an index: the counts have room for the samples since
+pub record Standing (k I at : ℕ) (a h since : List ℕ) : Type 0 where
+  pub a-length : k ≡ length a
+  pub h-length : k ≡ length h
+  pub since-length : k ≡ length since
+  pub index : (j : ℕ) → getD since j 0 ≤ at
+  pub room : (j : ℕ) → getD a j 0 + (at - getD since j 0) < 2 ^ 63
+  pub h-max : (j : ℕ) → getD h j 0 ≤ I
+
+-- and the places of two bands are among theirs
+pub record Crossable (k I at was is : ℕ) (a h since : List ℕ) : Type 0 where
+  pub standing : Standing k I at a h since
+  pub was-max : was ≤ k
+  pub is-max : is ≤ k
+
+-- a count and a hangover that a run can be added to
+pub record Countable (I run a h : ℕ) : Type 0 where
+  pub room : a + run < 2 ^ 63
+  pub h-max : h ≤ I
+
+-- one counter, settled at an index where it is one of those to be settled, else left alone. `on` says whether the envelope was at or above its
+-- threshold
+pub record SettledAt (I at : ℕ) (one on : Bool) (a h since a′ h′ since′ : ℕ) : Type 0 where
+  pub count : a′ ≡ cond one (countOver I on (at - since) a h) a
+  pub hangover : h′ ≡ cond one (hangoverOver I on (at - since) h) h
+  pub index : since′ ≡ cond one at since
+
+-- all of them, by their places
+pub record Settled (k I at : ℕ) (one on : ℕ → Bool) (a h since a′ h′ since′ : List ℕ) : Type 0 where
+  pub a-length : k ≡ length a′
+  pub h-length : k ≡ length h′
+  pub since-length : k ≡ length since′
+  pub each-one : (j : ℕ) → SettledAt I at (one j) (on j) (getD a j 0) (getD h j 0) (getD since j 0) (getD a′ j 0) (getD h′ j 0) (getD since′ j 0)
+
+-- whether j is from one place up to another
+unfoldable pub between : (from to j : ℕ) → Bool
+between from to j = leb from j && ltb j to
+
+-- no threshold lies above low and below high
+pub record Clear (c : ℕ → ℕ) (low high : ℕ) : Type 0 where
+  pub side : (j : ℕ) → (c j ≤ low) ⊎ (high ≤ c j)
+
+-- so many of the k thresholds are at or below low
+pub record Below (c : ℕ → ℕ) (k low below : ℕ) : Type 0 where
+  pub at-most : below ≤ k
+  pub side : (j : ℕ) → j < k → leb (c j) low ≡ ltb j below
+
+-- the band around an envelope q
+pub record Around (c : ℕ → ℕ) (k q low high below : ℕ) : Type 0 where
+  pub clear : Clear c low high
+  pub sides : Below c k low below
+  pub from : low ≤ q
+  pub to : q < high
+
+-- plain numbers from counts of samples
+abbrev pub numbersOf : List Samples → List ℕ
+numbersOf a = map (λ (n : Samples). n .0) a
+
+pub record Numbers (a : List Samples) (r : List ℕ) : Type 0 where
+  pub are : r ≡ numbersOf a
+  pub many : length r ≡ thresholds
+
+-- a state, from plain counts
+abbrev pub stateOf : Sums → List ℕ → List ℕ → State
+stateOf m a h = record { sums = m; a = map samplesOf a; h = h }
+
+-- the state that samples lead to, where the sums already hold the first of them and the counters do not
+unfoldable pub led : Counting → Sums → (a h : List ℕ) → List ℤ → State
+led by m a h [] = stateOf m a h
+led by m a h (x ∷ xs) =
+    stateAfter by (stateOf m (plainCounts threshold thresholds (by .i) (m .q) a h) (hangovers threshold thresholds (by .i) (m .q) h)) xs
+
+-- the same, by counters that stand for an envelope Q at an index
+abbrev pub ledBy : Counting → Sums → (Q i : ℕ) (since a h : List ℕ) → List ℤ → State
+ledBy by m Q i since a h xs =
+    led by m (countsBy threshold thresholds (by .i) Q i since a h) (hangoversBy threshold thresholds (by .i) Q i since h) xs
+
+-- sums m after the sample at index at, whose envelope is in a band, from which a run can start
+pub record Runnable (by : Counting) (m : Sums) (low high : ℕ) (xs : List ℤ) (at : ℕ) : Type 0 where
+  pub bounded : BoundedSums m
+  pub from : low ≤ m .q
+  pub to : m .q < high
+  pub k-max : by .k ≤ smoothing
+  pub some : at < length xs
+  pub room : m .n .0 + (length xs - (at + 1)) ≤ mostSamples
+
+-- from such sums, samples that keep the envelope from low up to high lead to index end; r is the sums after the sample there or, where the samples
+-- end there, after them all. Counters that stand for an envelope of the band need no settling meanwhile
+pub record Ran (by : Counting) (low high : ℕ) (m : Sums) (xs : List ℤ) (at : ℕ) (r : Sums) (end : ℕ) : Type 0 where
+  pub on : at < end
+  pub within : end ≤ length xs
+  pub bounded : BoundedSums r
+  pub total : end < length xs → r .n .0 ≡ m .n .0 + (end - at)
+  pub same : (Q : ℕ) (since a h : List ℕ) → low ≤ Q → Q < high → Clear threshold low high → ((j : ℕ) → getD since j 0 ≤ at)
+      → ledBy by m Q at since a h (drop at xs) ≡ ledBy by r Q end since a h (drop end xs)
