@@ -1,19 +1,20 @@
 -- Two's complement of a word, and the samples of a part one after another.
 use mathlib.Core.Bool.{cond}
 use mathlib.Core.List.{List, [], _∷_, _++_}
-use mathlib.Core.Path.{_≡_, sym, ap, ap₂, _∙_}
+use mathlib.Core.Path.{_≡_, sym, ap, _∙_}
 use Prim.Native.Nat.{ℕ, zero, suc, _+_, _-_, _*_, _^_, _≤_, _<_}
 use native.Mathlib.Omega.{arith}
 use native.Mathlib.Nat.{add-zero, zero-add}
 use native.Mathlib.Numerals.{add-one}
 use borrow.Author.Tests.{lt-ltb, le-ltb}
 use lib.IntN.{ℤ, pos, negsuc, negℤ, _-ℤ_}
-use lib.ListN.{length, take, set}
-use lib.Seq.{take-suc, take-set-le, getD-set-same, lt-length-set}
+use lib.ListN.{length, drop, getD, set}
+use lib.Seq.{drop-cons, append-snoc, set-at}
 use mir.Syntax.{w64}
 use mir.Val.{toZ}
 use mir.Facts.{toZ-pos}
 use Rattle.block.specs.Block.{number, signed, samplesAt}
+use Rattle.block.proofs.Laws.{samples-at-length}
 
 pub upper : (w : ℕ) → w < 32768 → pos w ≡ signed w
 unfolding signed
@@ -38,12 +39,13 @@ last b at (suc k) =
     let e : at + 2 + 2 * k ≡ at + 2 * suc k = omega arith in
     ap (λ (r : List ℤ). signed (number b at 2) ∷ r) (last b (at + 2) k ∙ ap (λ (n : ℕ). samplesAt b (at + 2) k ++ (signed (number b n 2) ∷ [])) e)
 
+-- and so one more place of a buffer whose first places hold the samples so far
 pub one-more : (b : List ℕ) (xs : List ℤ) (j : ℕ) (x : ℤ)
-    → j < length xs → take j xs ≡ samplesAt b 0 j → x ≡ signed (number b (2 * j) 2) → take (j + 1) (set xs j x) ≡ samplesAt b 0 (j + 1)
-one-more b xs j x h e g =
-    ap (λ (n : ℕ). take n (set xs j x)) (add-one j)
-    ∙ take-suc (set xs j x) j (pos 0) (lt-length-set xs j x h)
-    ∙ ap₂ (λ (f : List ℤ) (y : ℤ). f ++ (y ∷ [])) (take-set-le j xs j x (omega arith) ∙ e) (getD-set-same xs j x (pos 0) h ∙ g)
-    ∙ ap (λ (n : ℕ). samplesAt b 0 j ++ (signed (number b n 2) ∷ [])) (sym (zero-add (2 * j)))
-    ∙ sym (last b 0 j)
-    ∙ sym (ap (samplesAt b 0) (add-one j))
+    → j < length xs → x ≡ signed (number b (2 * j) 2) → set (samplesAt b 0 j ++ drop j xs) j x ≡ samplesAt b 0 (j + 1) ++ drop (j + 1) xs
+one-more b xs j x h e =
+    ap (λ (r : List ℤ). set (samplesAt b 0 j ++ r) j x) (drop-cons xs j (pos 0) h)
+    ∙ set-at (samplesAt b 0 j) (getD xs j (pos 0)) (drop (suc j) xs) x j (samples-at-length b 0 j)
+    ∙ sym (append-snoc (samplesAt b 0 j) x (drop (suc j) xs))
+    ∙ ap (λ (y : ℤ). samplesAt b 0 j ++ (y ∷ []) ++ drop (suc j) xs) (e ∙ ap (λ (n : ℕ). signed (number b n 2)) (sym (zero-add (2 * j))))
+    ∙ ap (λ (l : List ℤ). l ++ drop (suc j) xs) (sym (last b 0 j))
+    ∙ ap (λ (n : ℕ). samplesAt b 0 n ++ drop n xs) (sym (add-one j))

@@ -1,22 +1,22 @@
 -- What the crates above know of a block: what soundness is in terms of the rules, what its part is, and what the host is told.
 use mathlib.Core.Bool.{Bool, true, false, cond, not, and-false}
-use mathlib.Core.List.{List, [], _∷_}
+use mathlib.Core.List.{List, [], _∷_, _++_}
 use mathlib.Core.Logic.{_↔_}
 use mathlib.Core.Path.{_≡_, refl, sym, ap, ap₂, _∙_}
-use Prim.Native.Nat.{ℕ, zero, suc, _+_, _-_, _*_, _^_, _≤_, _<_}
+use Prim.Native.Nat.{ℕ, zero, suc, _+_, _-_, _*_, _/_, _^_, _≤_, _<_, min}
 use native.Mathlib.Omega.{arith}
 use native.Mathlib.Nat.{add-assoc}
 use borrow.Author.Tests.{eqb-true, ltb-true, ltb-false, leb-true, not-true, not-false}
 use lib.Dec.{ltb}
-use lib.IntN.{pos, negℤ}
+use lib.IntN.{ℤ, pos, negℤ}
 use mir.Syntax.{w16}
 use mir.Val.{SFits}
-use lib.ListN.{length, take, drop, length-drop}
-use lib.Seq.{getD-take, getD-drop, length-take-le}
+use lib.ListN.{length, take, drop, length-drop, length-append}
+use lib.Seq.{getD-take, getD-drop, length-take-le, take-at}
 use Rattle.refusal.specs.First.{firstOf, NoneApplies, numbered, rising, Given, Lowest}
 use Rattle.refusal.proofs.Laws.{past, given, given-lowest, both}
 use Rattle.rate.specs.Rates.{isNamed}
-use Rattle.block.specs.Block.{number, rateCode, count, signed, samplesAt, samples}
+use Rattle.block.specs.Block.{number, rateCode, count, signed, samplesAt, samples, decodedInto}
 use Rattle.block.specs.Refusals.{wrongLength, wrongCheck, wrongKind, wrongRate, wrongCount, usedUnused, blockRules, sound, samplesPart, hostRules, hostCheck}
 use Rattle.block.proofs.Conditions.{length-off, rate-right}
 
@@ -173,6 +173,23 @@ samples-at-length b at (suc k) = ap suc (samples-at-length b (at + 2) k)
 pub samples-length : (b : List ℕ) → length (samples b) ≡ count b
 unfolding samples
 samples-length b = samples-at-length b 12 (count b)
+
+-- ---- a buffer that samples were put into
+
+-- keeps its length
+pub decoded-length : (b : List ℕ) (xs : List ℤ) → length (decodedInto b xs) ≡ length xs
+unfolding decodedInto
+decoded-length b xs =
+    let k = min (length b / 2) (length xs) in
+    length-append (samplesAt b 0 k) (drop k xs) ∙ omega (arith, samples-at-length b 0 k, length-drop k xs)
+
+-- and where all samples found room, they are its first
+pub decoded-first : (b : List ℕ) (xs : List ℤ) → length b / 2 ≤ length xs → take (length b / 2) (decodedInto b xs) ≡ samplesAt b 0 (length b / 2)
+unfolding decodedInto
+decoded-first b xs h =
+    let e : min (length b / 2) (length xs) ≡ length b / 2 = omega arith in
+    ap (λ (k : ℕ). take (length b / 2) (samplesAt b 0 k ++ drop k xs)) e
+    ∙ take-at (samplesAt b 0 (length b / 2)) (drop (length b / 2) xs) (length b / 2) (samples-at-length b 0 (length b / 2))
 
 -- a sample is a signed 16-bit number
 pub signed-fits : (w : ℕ) → SFits w16 (signed w)

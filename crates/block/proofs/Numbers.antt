@@ -2,19 +2,24 @@
 use mathlib.Core.Bool.{true, false, _&&_}
 use mathlib.Core.List.{List}
 use mathlib.Core.Path.{_≡_, refl, sym, ap, ap₂, _∙_}
-use Prim.Native.Nat.{ℕ, suc, _+_, _-_, _*_, _^_, _≤_, _<_}
+use Prim.Native.Nat.{ℕ, zero, suc, _+_, _-_, _*_, _^_, _≤_, _<_}
 use native.Mathlib.Omega.{arith}
-use native.Mathlib.Nat.{mul-le-mul, add-assoc}
+use native.Mathlib.Nat.{mul-le-mul, add-assoc, add-zero}
 use native.Mathlib.Numerals.{add-one}
 use borrow.Author.Tests.{eq-eqb, ne-eqb}
 use lib.Dec.{eqb}
-use lib.ListN.{getD}
+use lib.ListN.{length, getD, drop, List·getD-eq-default}
+use lib.Seq.{getD-drop}
 use Rattle.block.specs.Block.{number, kind, rateCode, count, before, sumBelow}
 use Rattle.block.specs.Refusals.{zeros}
 
 pub one-byte : (b : List ℕ) (at : ℕ) → getD b at 0 ≡ number b at 1
 unfolding number
 one-byte b at = omega arith
+
+-- a byte past the end
+pub no-byte : (b : List ℕ) (at : ℕ) → length b ≤ at → 0 ≡ number b at 1
+no-byte b at h = sym (List·getD-eq-default b 0 h) ∙ one-byte b at
 
 pub two-bytes : (b : List ℕ) (at : ℕ) → getD b at 0 + 256 * getD b (at + 1) 0 ≡ number b at 2
 unfolding number
@@ -28,17 +33,30 @@ low-two b at size = let e : number b (at + 1 + 1) size ≡ number b (at + 2) siz
 pub four-bytes : (b : List ℕ) (at : ℕ) → number b at 2 + 65536 * number b (at + 2) 2 ≡ number b at 4
 four-bytes b at = low-two b at 2
 
-pub before-is : (b : List ℕ) → number b 4 4 + 4294967296 * number b 8 4 ≡ before b
+pub eight-bytes : (b : List ℕ) → number b 0 4 + 4294967296 * number b 4 4 ≡ number b 0 8
+eight-bytes b = omega (arith, low-two b 0 6, low-two b 2 4, four-bytes b 0)
+
+-- a number in what follows a place is the number that far on
+past : (b : List ℕ) (at i size : ℕ) → number (drop at b) i size ≡ number b (at + i) size
+unfolding number
+past b at i zero = refl
+past b at i (suc size) =
+    ap₂ (λ (x y : ℕ). x + 256 * y) (getD-drop at b i 0) (past b at (i + 1) size ∙ ap (λ (n : ℕ). number b n size) (sym (add-assoc at i 1)))
+
+pub from-place : (b : List ℕ) (at size : ℕ) → number (drop at b) 0 size ≡ number b at size
+from-place b at size = past b at 0 size ∙ ap (λ (n : ℕ). number b n size) (add-zero at)
+
+pub before-is : (b : List ℕ) → number b 4 8 ≡ before b
 unfolding before
-before-is b = omega (arith, low-two b 4 6, low-two b 6 4, four-bytes b 4)
+before-is b = refl
 
 pub kind-is : (b : List ℕ) → getD b 0 0 ≡ kind b
 unfolding kind
 kind-is b = one-byte b 0
 
-pub rate-code-is : (b : List ℕ) → getD b 1 0 ≡ rateCode b
+pub rate-code-is : (b : List ℕ) → number b 1 1 ≡ rateCode b
 unfolding rateCode
-rate-code-is b = one-byte b 1
+rate-code-is b = refl
 
 pub count-is : (b : List ℕ) → number b 2 2 ≡ count b
 unfolding count

@@ -1,10 +1,10 @@
 -- Sample blocks: document 01, "Sample blocks". A block is a list of bytes, of any length: what lies past its end reads as 0.
 use mathlib.Core.Bool.{cond}
-use mathlib.Core.List.{List, [], _∷_}
-use Prim.Native.Nat.{ℕ, zero, suc, _+_, _-_, _*_, _%_, _^_}
+use mathlib.Core.List.{List, [], _∷_, _++_}
+use Prim.Native.Nat.{ℕ, zero, suc, _+_, _-_, _*_, _/_, _%_, _^_, min}
 use lib.Dec.{ltb}
 use lib.IntN.{ℤ, pos, negℤ}
-use lib.ListN.{getD}
+use lib.ListN.{length, getD, drop}
 
 -- the number in the bytes of b from at on, as many as size says, little-endian
 unfoldable pub number : List ℕ → ℕ → ℕ → ℕ
@@ -32,6 +32,10 @@ signed w = cond (ltb w (2 ^ 15)) (pos w) (negℤ (pos (2 ^ 16 - w)))
 unfoldable pub samplesAt : List ℕ → ℕ → ℕ → List ℤ
 samplesAt b at zero = []
 samplesAt b at (suc k) = signed (number b at 2) ∷ samplesAt b (at + 2) k
+
+-- a buffer xs once the samples in b, two bytes each, stand in its first places, as far as both go; what it held past them stays
+unfoldable pub decodedInto : List ℕ → List ℤ → List ℤ
+decodedInto b xs = let k = min (length b / 2) (length xs) in samplesAt b 0 k ++ drop k xs
 
 -- the samples of a block
 unfoldable pub samples : List ℕ → List ℤ

@@ -1,8 +1,8 @@
-// The fields of a block of 512 bytes.
+// What the check of a block of 512 bytes reads, with no test of its own for the end.
 ghost use mathlib.Core.Path.{_≡_};
 ghost use Prim.Native.Nat.{_+_, _-_, _≤_, _<_, _^_};
 ghost use lib.ListN.{length};
-ghost use Rattle.block.specs.Block.{number as numberIn, kind as kindIn, rateCode, before as beforeIn};
+ghost use Rattle.block.specs.Block.{number as numberIn, kind as kindIn};
 ghost use Rattle.block.specs.Refusals.{zeros};
 
 pub fn kind(block: &[u8]) -> u8
@@ -10,33 +10,6 @@ pub fn kind(block: &[u8]) -> u8
     ensures { λ r. ⌜ r ≡ kindIn (now (block .entry)) ⌝ }
 {
     block[0]
-}
-
-pub fn rate_code(block: &[u8]) -> u32
-    requires { ⌜ length (now block) ≡ 512 ⌝ }
-    ensures { λ r. ⌜ r ≡ rateCode (now (block .entry)) ⌝ }
-{
-    block[1] as u32
-}
-
-// The number of samples before the block.
-pub fn before(block: &[u8]) -> u64
-    requires { ⌜ length (now block) ≡ 512 ⌝ }
-    ensures { λ r. ⌜ r ≡ beforeIn (now (block .entry)) ⌝ }
-{
-    let low = long(block, 4);
-    let high = long(block, 8);
-    low + 4294967296 * high
-}
-
-// The four-byte number at a place.
-fn long(block: &[u8], at: usize) -> u64
-    requires { ⌜ at + 3 < length (now block) ⌝ }
-    ensures { λ r. ⌜ (r ≡ numberIn (now (block .entry)) at 4) × (r < 2 ^ 32) ⌝ }
-{
-    let low = word(block, at) as u64;
-    let high = word(block, at + 2) as u64;
-    low + 65536 * high
 }
 
 // The two-byte number at a place.

@@ -1,8 +1,9 @@
 // Sample blocks (document 01, "Sample blocks"): why one is refused, the part that carries its
-// samples, and the check that the line host calls.
+// samples, the check that the line host calls, and numbers and samples from bytes.
 mod checks;
-pub mod fields;
-pub mod samples;
+mod fields;
+mod reading;
+mod samples;
 
 ghost use mathlib.Core.List.{[], _∷_};
 ghost use mathlib.Core.Path.{_≡_};
@@ -10,8 +11,14 @@ ghost use lib.ListN.{length};
 ghost use Rattle.refusal.specs.First.{firstOf};
 ghost use Rattle.refusal.specs.Number.{numberGiven};
 ghost use Rattle.block.specs.Refusals.{wrongCount, usedUnused, blockRules, sound, samplesPart, hostCheck};
+pub use reading::before;
+pub use reading::eight_bytes;
+pub use reading::one_byte;
+pub use reading::rate_code;
+pub use reading::two_bytes;
 use refusal::Answer;
 use refusal::Refusal;
+pub use samples::decode;
 
 // The bytes of a sound block's samples; of any other block, none.
 pub fn samples_part(block: &[u8]) -> &[u8]
@@ -31,7 +38,7 @@ fn is_sound(block: &[u8]) -> bool
     if block.len() != 512 {
         return false;
     }
-    let code = fields::rate_code(block);
+    let code = rate_code(block);
     if !rate::is_named(code) {
         return false;
     }
@@ -54,7 +61,7 @@ pub fn refused(block: &[u8], code: u32) -> Answer
     if fields::kind(block) != 1 {
         return Answer::Refused(Refusal::BlockKind);
     }
-    if fields::rate_code(block) != code {
+    if rate_code(block) != code {
         return Answer::Refused(Refusal::BlockRate);
     }
     refused_count(block)

@@ -1,31 +1,34 @@
-// The samples in the part of a block that carries them.
+// Samples in bytes, two bytes each.
 ghost use mathlib.Core.Path.{_≡_};
-ghost use Prim.Native.Nat.{_+_, _/_, _≤_, _<_};
-ghost use lib.ListN.{length, take};
-ghost use Rattle.block.specs.Block.{number, signed, samplesAt};
+ghost use Prim.Native.Nat.{_+_, _<_, min};
+ghost use lib.ListN.{length};
+ghost use Rattle.block.specs.Block.{number, signed, decodedInto};
 use crate::fields;
 
-// The samples of a part, in the first places of an array that holds any block's.
-pub fn decoded(part: &[u8]) -> [i16; 248]
-    requires { ⌜ length (now part) ≤ 496 ⌝ }
-    ensures { λ r. ⌜ take (length (now (part .entry)) / 2) r ≡ samplesAt (now (part .entry)) 0 (length (now (part .entry)) / 2) ⌝ }
+// Puts the samples in `bytes` into the first places of a buffer, as far as both go.
+pub fn decode(bytes: &[u8], samples: &mut [i16])
+    ensures { λ _. ⌜ now (samples .exit) ≡ decodedInto (now (bytes .entry)) (now (samples .entry)) ⌝ }
 {
-    let count = part.len() / 2;
-    let mut samples = [0i16; 248];
+    let count = least(bytes.len() / 2, samples.len());
     let mut j = 0;
     while j < count {
-        samples[j] = sample(part, 2 * j);
+        samples[j] = sample(bytes, 2 * j);
         j += 1;
     }
-    samples
+}
+
+fn least(a: usize, b: usize) -> usize
+    ensures { λ r. ⌜ r ≡ min a b ⌝ }
+{
+    if a < b { a } else { b }
 }
 
 // The sample at a place: two bytes, two's complement.
-pub fn sample(part: &[u8], at: usize) -> i16
-    requires { ⌜ at + 1 < length (now part) ⌝ }
-    ensures { λ r. ⌜ r ≡ signed (number (now (part .entry)) at 2) ⌝ }
+fn sample(bytes: &[u8], at: usize) -> i16
+    requires { ⌜ at + 1 < length (now bytes) ⌝ }
+    ensures { λ r. ⌜ r ≡ signed (number (now (bytes .entry)) at 2) ⌝ }
 {
-    let word = fields::word(part, at);
+    let word = fields::word(bytes, at);
     if word < 32768 {
         return word as i16;
     }

@@ -1,22 +1,23 @@
--- The active level at any crossing, for any margin of at least one step: it lies between A_lower and A_upper, so the logarithm's three facts
--- carry it to the two whole-number inequalities of demand 3. Nothing of lev is opened, and nothing here knows which crossing is used.
-use mathlib.Core.Bool.{Bool, true, false, _&&_, _||_}
+-- The active level at any crossing, for any margin: it lies between A_lower and A_upper. For a margin of at least one step the logarithm's three
+-- facts carry it to the two whole-number inequalities of demand 3. Nothing of lev is opened, and nothing here knows which crossing is used.
+use mathlib.Core.Bool.{Bool, true, false, _&&_, _||_, false≢true}
 use mathlib.Core.List.{List}
-use mathlib.Core.Path.{_≡_, refl, sym, _∙_, ap, ap₂, subst}
-use Prim.Native.Nat.{ℕ, suc, _+_, _*_, _-_, _/_, _^_, _≤_, _<_}
-use native.Mathlib.Nat.{le-refl, le-of-eq, le-of-lt, le-trans, lt-of-lt-of-le, lt-of-le-of-lt, mul-le-mul-left, mul-lt-mul-of-pos-left, pow-le-pow-left, div-le-of-le-mul, add-zero}
+use mathlib.Core.Path.{_≡_, refl, sym, _∙_, ap}
+use Prim.Native.Nat.{ℕ, _+_, _*_, _-_, _/_, _^_, _≤_, _<_}
+use native.Mathlib.Nat.{le-refl, le-of-eq, le-trans, lt-of-lt-of-le, lt-of-le-of-lt, mul-le-mul-left, mul-lt-mul-of-pos-left, pow-le-pow-left}
 use native.Mathlib.Omega.{arith}
-use borrow.Author.Tests.{ltb-true, leb-true}
-use lib.Dec.{T, leb, ltb}
-use lib.IntN.{ℤ, pos, negsuc, natAbs, subℕ, _+ℤ_, _-ℤ_, _*ℤ_}
-use lib.ListN.{getD}
+use borrow.Author.Tests.{ltb-true, ltb-false, leb-true, le-ltb}
+use lib.Dec.{leb, ltb}
+use lib.IntN.{ℤ, pos, negsuc, natAbs, _-ℤ_}
 use lib.Pow.{pow-add, pow-pos, pow-mono}
-use lib.Signed.{ltZ, shrZ}
+use lib.Signed.{ltZ}
 use Rattle.level.specs.Logarithm.{lev}
+use Rattle.level.specs.Types.{activity}
+use Rattle.level.specs.declared.Samples.{Samples}
 use Rattle.level.proofs.Laws.{facts}
-use Rattle.crossing.specs.Levels.{longTerm, activeAt, levelOfThreshold, excess}
+use Rattle.crossing.specs.Levels.{longTerm, activeAt, stepsAThreshold, levelOfThreshold, excess}
 use Rattle.crossing.specs.Crossing.{isZero, isCrossing, lowerOf, activeLevel}
-use Rattle.crossing.proofs.Differences.{sub-is, sub-pos, sub-neg, sub-less, sub-more, sub-sub, sub-both, not-above, above, below, level-with}
+use Rattle.crossing.proofs.Differences.{cancel, minus-pos, back, twice, below-is, not-above, wider, floored, part}
 
 -- ---- a level in whole numbers
 
@@ -36,162 +37,160 @@ less-two sq a e A s0 s1 a0 a1 l h =
     (le-trans (pow-mono {i = A + (lev a + 2)} {j = 2 + lev sq} (omega arith))
     (le-trans (le-of-eq (pow-add 2 2 (lev sq))) (mul-le-mul-left 4 (facts .at-most sq s0 s1))))))
 
--- ---- the interpolation: with s = lev(sq), it adds to A_lower = s − la a part f of la − lb
-
-interpolated : (s la lb x y : ℕ) → lb ≤ la
-    → (pos s -ℤ pos la) +ℤ shrZ (((pos s -ℤ pos lb) -ℤ (pos s -ℤ pos la)) *ℤ pos x) (natAbs (pos x -ℤ negsuc y)) ≡ subℕ (s + (la - lb) * x / (x + suc y)) la
-interpolated s la lb x y h =
-    ap₂ (λ (A B : ℤ). A +ℤ shrZ ((B -ℤ A) *ℤ pos x) (x + suc y)) (sub-is s la) (sub-is s lb)
-    ∙ ap (λ (z : ℤ). subℕ s la +ℤ shrZ (z *ℤ pos x) (x + suc y)) (sub-sub s la lb h)
-    ∙ sub-more s la ((la - lb) * x / (x + suc y))
-
-part : (r x y : ℕ) → r * x / (x + suc y) ≤ r
-part r x y = div-le-of-le-mul (x + suc y) (omega arith)
-
--- d_j as one difference
-pub excess-is : (M s : ℕ) (a : List ℕ) (j : ℕ) → excess M (pos s) a j ≡ subℕ s (lev (getD a j 0) + 8192 * j + M)
-unfolding excess activeAt levelOfThreshold
-excess-is M s a j =
-    ap (λ (z : ℤ). z -ℤ pos (8192 * j) -ℤ pos M) (sub-is s (lev (getD a j 0)))
-    ∙ ap (λ (z : ℤ). z -ℤ pos M) (sub-less s (lev (getD a j 0)) (8192 * j))
-    ∙ sub-less s (lev (getD a j 0) + 8192 * j) M
-
 -- ---- what a crossing is
 
 both : (x y : Bool) → x && y ≡ true → (x ≡ true) × (y ≡ true)
 both true y h = (refl, h)
-both false y h = absurd (subst T (sym h) tt)
+both false y h = absurd (false≢true h)
 
-pieces : (p z l u v : Bool) → z ≡ false → p && (z || (l && u && v)) ≡ true → (l ≡ true) × (u ≡ true) × (v ≡ true)
-pieces true true l u v e h = absurd (subst T e tt)
-pieces true false l u v e h = let k = both (l && u) v h in (both l u (k .0) .0, both l u (k .0) .1, k .1)
-pieces false z l u v e h = absurd (subst T (sym h) tt)
-
--- the level at a crossing j, whose lower threshold is i: (s + f) − lev(a_i)
-pub record Crossed (M s : ℕ) (a : List ℕ) (j : ℕ) : Type 0 where
+-- the level at a crossing j, whose lower threshold is i: S − g, with g from lev(a_j) to lev(a_i), and d_i not below 0
+pub record Crossed (M S : ℤ) (a : List Samples) (j : ℕ) : Type 0 where
   pub i : ℕ
-  pub lower : lowerOf M (pos s) a j ≡ i
+  pub lower : lowerOf M S a j ≡ i
   pub reach : i ≤ j
-  pub alive : 0 < getD a j 0
-  pub counts : getD a j 0 ≤ getD a i 0
-  pub f : ℕ
-  pub level : activeLevel M (pos s) a j ≡ subℕ (s + f) (lev (getD a i 0))
-  pub part-of : f + lev (getD a j 0) ≤ lev (getD a i 0)
-  pub over : lev (getD a i 0) + 8192 * i + M ≤ s
+  pub alive : 0 < activity a j
+  pub counts : activity a j ≤ activity a i
+  pub g : ℕ
+  pub level : activeLevel M S a j ≡ S -ℤ pos g
+  pub least : lev (activity a j) ≤ g
+  pub most : g ≤ lev (activity a i)
+  pub over : ltZ (excess M S a i) (pos 0) ≡ false
 
--- where the sign changes at j: d_(j−1) = x and d_j = −(y + 1)
-pub record Turned (M s : ℕ) (a : List ℕ) (j : ℕ) : Type 0 where
+-- where the sign changes at j
+pub record Turned (M S : ℤ) (a : List Samples) (j : ℕ) : Type 0 where
   pub from-one : 1 ≤ j
-  pub counts : getD a j 0 ≤ getD a (j - 1) 0
-  pub lev-falls : lev (getD a j 0) ≤ lev (getD a (j - 1) 0)
-  pub over : lev (getD a (j - 1) 0) + 8192 * (j - 1) + M ≤ s
-  pub x : ℕ
-  pub y : ℕ
-  pub low-is : excess M (pos s) a (j - 1) ≡ pos x
-  pub high-is : excess M (pos s) a j ≡ negsuc y
+  pub counts : activity a j ≤ activity a (j - 1)
+  pub levels : lev (activity a j) ≤ lev (activity a (j - 1))
+  pub above : ltZ (pos 0) (excess M S a (j - 1)) ≡ true
+  pub below : ltZ (excess M S a j) (pos 0) ≡ true
 
--- a_j is above 0
-pub alive : (M : ℕ) (S : ℤ) (a : List ℕ) (j : ℕ) → isCrossing M S a j ≡ true → 0 < getD a j 0
-unfolding isCrossing
-alive M S a j cross = ltb-true _ _ (both _ _ cross .0)
+-- what a test that fails below 0 says
+not-below : (t : ℤ → Bool) → ((n : ℕ) → t (negsuc n) ≡ false) → (d : ℤ) → t d ≡ true → ltZ d (pos 0) ≡ false
+not-below t off (pos n) h = le-ltb n 0 (omega arith)
+not-below t off (negsuc n) h = absurd (false≢true (sym (off n) ∙ h))
 
-module _ (M s : ℕ) (a : List ℕ) (j : ℕ) (cross : isCrossing M (pos s) a j ≡ true) where
+module _ (M S : ℤ) (a : List Samples) (j : ℕ) where
+  -- a_j is above 0
+  pub alive : isCrossing M S a j ≡ true → 0 < activity a j
+  unfolding isCrossing
+  alive cross = ltb-true _ _ (both _ _ cross .0)
+
+  -- A_j − A_(j−1)
+  rise : Turned M S a j → activeAt S a j -ℤ activeAt S a (j - 1) ≡ pos (lev (activity a (j - 1)) - lev (activity a j))
+  unfolding activeAt
+  rise t = cancel S (pos (lev (activity a j))) (pos (lev (activity a (j - 1)))) ∙ minus-pos _ _ (t .levels)
+
+  pub rises : Turned M S a j → ltZ (activeAt S a j -ℤ activeAt S a (j - 1)) (pos 0) ≡ false
+  rises t = ap (λ (z : ℤ). ltZ z (pos 0)) (rise t) ∙ le-ltb (lev (activity a (j - 1)) - lev (activity a j)) 0 (omega arith)
+
+module _ (M S : ℤ) (a : List Samples) (j : ℕ) (cross : isCrossing M S a j ≡ true) where
+  -- the signs on both sides of a change of sign
+  changed : isZero (excess M S a j) ≡ false → (leb 1 j ≡ true) × (ltZ (pos 0) (excess M S a (j - 1)) ≡ true) × (ltZ (excess M S a j) (pos 0) ≡ true)
+  unfolding isCrossing
+  changed z =
+      let l = leb 1 j in
+      let u = ltZ (pos 0) (excess M S a (j - 1)) in
+      let v = ltZ (excess M S a j) (pos 0) in
+      let k = both (l && u) v (ap (λ (t : Bool). t || (l && u && v)) (sym z) ∙ both (ltb 0 (activity a j)) _ cross .1) in
+      (both l u (k .0) .0, both l u (k .0) .1, k .1)
+
+  pub turned : (1 ≤ j → activity a j ≤ activity a (j - 1)) → activity a (j - 1) ≤ 2 ^ 80 → isZero (excess M S a j) ≡ false → Turned M S a j
+  turned falls few z =
+      let c = changed z in
+      let f = falls (leb-true 1 j (c .0)) in
+      record {
+        from-one = leb-true 1 j (c .0);
+        counts = f;
+        levels = facts .never-falls _ _ (alive M S a j cross) f few;
+        above = c .1;
+        below = c .2;
+      }
+
   -- d_j = 0: the level is A_j
-  crossed-at : isZero (excess M (pos s) a j) ≡ true → Crossed M s a j
+  crossed-at : isZero (excess M S a j) ≡ true → Crossed M S a j
   unfolding lowerOf activeLevel activeAt
   crossed-at z =
-      let e = level-with s (lev (getD a j 0) + 8192 * j + M) (ap isZero (sym (excess-is M s a j)) ∙ z) in
       record {
         i = j;
         lower = simp z;
         reach = le-refl j;
-        alive = alive M (pos s) a j cross;
-        counts = le-refl (getD a j 0);
-        f = 0;
-        level = simp z (sub-is s (lev (getD a j 0)) ∙ ap (λ (t : ℕ). subℕ t (lev (getD a j 0))) (sym (add-zero s)));
-        part-of = omega arith;
-        over = le-of-eq (sym e);
+        alive = alive M S a j cross;
+        counts = le-refl _;
+        g = lev (activity a j);
+        level = simp z;
+        least = le-refl _;
+        most = le-refl _;
+        over = not-below isZero (λ n. refl) (excess M S a j) z;
       }
-
-  -- the signs on both sides of a change of sign
-  changed : isZero (excess M (pos s) a j) ≡ false → (1 ≤ j) × (ltZ (pos 0) (excess M (pos s) a (j - 1)) ≡ true) × (ltZ (excess M (pos s) a j) (pos 0) ≡ true)
-  unfolding isCrossing
-  changed z = let k = pieces (ltb 0 (getD a j 0)) _ (leb 1 j) _ _ z cross in (leb-true _ _ (k .0), k .1, k .2)
-
-  pub turned : (1 ≤ j → getD a j 0 ≤ getD a (j - 1) 0) → getD a (j - 1) 0 ≤ 2 ^ 80 → isZero (excess M (pos s) a j) ≡ false → Turned M s a j
-  turned falls few z =
-      record {
-        from-one = c .0;
-        counts = falls (c .0);
-        lev-falls = facts .never-falls (getD a j 0) (getD a (j - 1) 0) (alive M (pos s) a j cross) (falls (c .0)) few;
-        over = le-of-lt low;
-        x = s - (lev (getD a (j - 1) 0) + 8192 * (j - 1) + M);
-        y = lev (getD a j 0) + 8192 * j + M - suc s;
-        low-is = excess-is M s a (j - 1) ∙ sub-pos s (lev (getD a (j - 1) 0) + 8192 * (j - 1) + M) (le-of-lt low);
-        high-is = excess-is M s a j ∙ sub-neg s (lev (getD a j 0) + 8192 * j + M) high;
-      }
-    where
-      c : (1 ≤ j) × (ltZ (pos 0) (excess M (pos s) a (j - 1)) ≡ true) × (ltZ (excess M (pos s) a j) (pos 0) ≡ true)
-      c = changed z
-
-      low : lev (getD a (j - 1) 0) + 8192 * (j - 1) + M < s
-      low = above s (lev (getD a (j - 1) 0) + 8192 * (j - 1) + M) (ap (ltZ (pos 0)) (sym (excess-is M s a (j - 1))) ∙ c .1)
-
-      high : s < lev (getD a j 0) + 8192 * j + M
-      high = below s (lev (getD a j 0) + 8192 * j + M) (ap (λ (d : ℤ). ltZ d (pos 0)) (sym (excess-is M s a j)) ∙ c .2)
 
   -- else the level lies between A_(j−1) and A_j
-  crossed-over : Turned M s a j → isZero (excess M (pos s) a j) ≡ false → Crossed M s a j
+  crossed-over : Turned M S a j → isZero (excess M S a j) ≡ false → Crossed M S a j
   unfolding lowerOf activeLevel activeAt
   crossed-over t z =
-      let la = lev (getD a (j - 1) 0) in
-      let lb = lev (getD a j 0) in
+      let la = lev (activity a (j - 1)) in
+      let lb = lev (activity a j) in
+      let d = excess M S a (j - 1) in
+      let e = excess M S a j in
+      let f = (la - lb) * natAbs d / natAbs (d -ℤ e) in
+      let p = part (la - lb) _ _ (wider d e (t .above) (t .below)) in
       record {
         i = j - 1;
         lower = simp z;
         reach = omega arith;
-        alive = alive M (pos s) a j cross;
+        alive = alive M S a j cross;
         counts = t .counts;
-        f = (la - lb) * t .x / (t .x + suc (t .y));
-        level = simp z (ap₂ (λ (d e : ℤ). (pos s -ℤ pos la) +ℤ shrZ (((pos s -ℤ pos lb) -ℤ (pos s -ℤ pos la)) *ℤ d) (natAbs (d -ℤ e))) (t .low-is) (t .high-is)
-            ∙ interpolated s la lb (t .x) (t .y) (t .lev-falls));
-        part-of = omega (arith, part (la - lb) (t .x) (t .y), t .lev-falls);
-        over = t .over;
+        g = la - f;
+        level = simp (z, rise M S a j t, floored (pos (la - lb)) d e (le-ltb (la - lb) 0 (omega arith)) (t .above)) (back S la f (omega (arith, p)));
+        least = omega (arith, p, t .levels);
+        most = omega arith;
+        over = not-below (ltZ (pos 0)) (λ n. refl) d (t .above);
       }
 
-  pub crossed : (1 ≤ j → getD a j 0 ≤ getD a (j - 1) 0) → getD a (j - 1) 0 ≤ 2 ^ 80 → Crossed M s a j
-  crossed falls few = go (isZero (excess M (pos s) a j)) refl
+  pub crossed : (1 ≤ j → activity a j ≤ activity a (j - 1)) → activity a (j - 1) ≤ 2 ^ 80 → Crossed M S a j
+  crossed falls few = go (isZero (excess M S a j)) refl
     where
-      go : (t : Bool) → isZero (excess M (pos s) a j) ≡ t → Crossed M s a j
+      go : (t : Bool) → isZero (excess M S a j) ≡ t → Crossed M S a j
       go true z = crossed-at z
       go false z = crossed-over (turned falls few z) z
 
 -- the factor F = L − A is never above 0, where a_lower is at most n
-pub factor : (M sq n : ℕ) (a : List ℕ) (j : ℕ) → (c : Crossed M (lev sq) a j) → getD a (c .i) 0 ≤ n → n ≤ 2 ^ 80
-    → ltZ (pos 0) (longTerm (pos (lev sq)) n -ℤ activeLevel M (pos (lev sq)) a j) ≡ false
+pub factor : (M S : ℤ) (n : ℕ) (a : List Samples) (j : ℕ) → (c : Crossed M S a j) → activity a (c .i) ≤ n → n ≤ 2 ^ 80
+    → ltZ (pos 0) (longTerm S n -ℤ activeLevel M S a j) ≡ false
 unfolding longTerm
-factor M sq n a j c few big =
-    let l = facts .never-falls (getD a (c .i) 0) n (le-trans (c .alive) (c .counts)) few big in
-    ap₂ (λ (y z : ℤ). ltZ (pos 0) (y -ℤ z)) (sub-is (lev sq) (lev n)) (c .level)
-    ∙ ap (ltZ (pos 0)) (sub-both (lev sq) (lev n) (lev (getD a (c .i) 0)) (c .f))
-    ∙ not-above (lev (getD a (c .i) 0)) (lev n + c .f) (omega arith)
+factor M S n a j c few big =
+    let l = facts .never-falls _ n (le-trans (c .alive) (c .counts)) few big in
+    ap (λ (z : ℤ). ltZ (pos 0) (S -ℤ pos (lev n) -ℤ z)) (c .level)
+    ∙ ap (ltZ (pos 0)) (cancel S (pos (lev n)) (pos (c .g)))
+    ∙ not-above (c .g) (lev n) (omega (arith, c .most))
 
 -- ---- the bounds of demand 3, at any crossing
 
-pub record Bounded (M sq : ℕ) (a : List ℕ) (j e e′ : ℕ) : Type 0 where
+-- d_i is not below 0: A_i is at least C_i + M
+over-margin : (N s : ℕ) (a : List Samples) (i : ℕ) → ltZ (excess (pos N) (pos s) a i) (pos 0) ≡ false → lev (activity a i) + N ≤ s
+unfolding excess activeAt levelOfThreshold
+over-margin N s a i h =
+    let l = lev (activity a i) in
+    let C = stepsAThreshold * i in
+    let e = ap (λ (z : ℤ). z -ℤ pos N) (twice (pos s) l C) ∙ twice (pos s) (l + C) N in
+    omega (arith, ltb-false s (l + C + N) (sym (below-is s (l + C + N)) ∙ ap (λ (z : ℤ). ltZ z (pos 0)) (sym e) ∙ h))
+
+pub record Bounded (M : ℤ) (sq : ℕ) (a : List Samples) (j e e′ : ℕ) : Type 0 where
   pub A : ℕ
   pub reported : activeLevel M (pos (lev sq)) a j ≡ pos A
   pub above-zero : 0 < A
   pub plus : sq ^ 4096 < 2 ^ (A + 2) * e ^ 4096
   pub less : 2 ^ A * e′ ^ 4096 < 4 * sq ^ 4096
 
-pub bounded : (M sq : ℕ) (a : List ℕ) (j e e′ : ℕ) → 1 ≤ M → 1 ≤ sq → sq ≤ 2 ^ 80 → (c : Crossed M (lev sq) a j) → getD a (c .i) 0 ≤ 2 ^ 80
-    → getD a (c .i) 0 ≤ e → e′ ≤ getD a j 0 → Bounded M sq a j e e′
-bounded M sq a j e e′ m s0 s1 c few low high =
+pub bounded : (M : ℤ) (sq : ℕ) (a : List Samples) (j e e′ : ℕ) → ltZ (pos 0) M ≡ true → 1 ≤ sq → sq ≤ 2 ^ 80
+    → (c : Crossed M (pos (lev sq)) a j) → activity a (c .i) ≤ 2 ^ 80 → activity a (c .i) ≤ e → e′ ≤ activity a j → Bounded M sq a j e e′
+bounded (negsuc n) sq a j e e′ m s0 s1 c few low high = absurd (false≢true m)
+bounded (pos N) sq a j e e′ m s0 s1 c few low high =
+    let o = over-margin N (lev sq) a (c .i) (c .over) in
+    let n = ltb-true 0 N m in
     record {
-      A = lev sq + c .f - lev (getD a (c .i) 0);
-      reported = c .level ∙ sub-pos (lev sq + c .f) (lev (getD a (c .i) 0)) (omega (arith, c .over));
-      above-zero = omega (arith, c .over);
-      plus = plus-two sq (getD a (c .i) 0) e _ s0 s1 (le-trans (c .alive) (c .counts)) few low (omega (arith, c .over));
-      less = less-two sq (getD a j 0) e′ _ s0 s1 (c .alive) (le-trans (c .counts) few) high (omega (arith, c .over, c .part-of));
+      A = lev sq - c .g;
+      reported = c .level ∙ minus-pos (lev sq) (c .g) (omega (arith, c .most));
+      above-zero = omega (arith, c .most);
+      plus = plus-two sq (activity a (c .i)) e _ s0 s1 (le-trans (c .alive) (c .counts)) few low (omega (arith, c .most));
+      less = less-two sq (activity a j) e′ _ s0 s1 (c .alive) (le-trans (c .counts) few) high (omega (arith, c .most, c .least));
     }

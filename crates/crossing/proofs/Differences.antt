@@ -1,122 +1,71 @@
--- Differences of natural numbers as integers: sums of them, their signs, and what lies above and below zero.
-use mathlib.Core.Bool.{Bool, true, false, cond}
-use mathlib.Core.Path.{_≡_, refl, sym, _∙_, ap, subst}
-use Prim.Native.Nat.{ℕ, zero, suc, _+_, _-_, _≤_, _<_}
-use native.Mathlib.Nat.{add-zero}
+-- Differences of integers, their signs, and the part of a rise that a change of sign takes.
+use mathlib.Core.Bool.{Bool, true, false, cond, true≢false, false≢true}
+use mathlib.Core.Path.{_≡_, refl, sym, ap, _∙_}
+use Prim.Native.Nat.{ℕ, zero, suc, _+_, _*_, _-_, _/_, _≤_, _<_}
+use native.Mathlib.Nat.{le-trans, le-of-lt, mul-le-mul-left, div-le-of-le-mul, mul-comm}
 use native.Mathlib.Omega.{arith}
-use borrow.Author.Tests.{ltb-true, ltb-false, lt-ltb, le-ltb, eqb-true}
-use lib.Dec.{T, ltb}
-use lib.IntN.{pos, negsuc, subℕ, _+ℤ_, _-ℤ_, +ℤ-idr}
+use borrow.Author.Tests.{ltb-true, le-ltb}
+use lib.Dec.{ltb}
+use lib.IntN.{ℤ, pos, negsuc, negℤ, natAbs, _+ℤ_, _-ℤ_, _*ℤ_, +ℤ-assoc, +ℤ-comm, +ℤ-negℤ-cancel, negℤ-+ℤ, negℤ-negℤ}
 use lib.Signed.{ltZ}
-use Rattle.crossing.specs.Crossing.{isZero}
+use Rattle.crossing.specs.Crossing.{floorOver}
 
-pub sub-pos : (a b : ℕ) → b ≤ a → subℕ a b ≡ pos (a - b)
-sub-pos a b h = rw (le-ltb a b h)
+turned-round : (x y : ℤ) → negℤ (x -ℤ y) ≡ negℤ x +ℤ y
+turned-round x y = negℤ-+ℤ x (negℤ y) ∙ ap (λ (z : ℤ). negℤ x +ℤ z) (negℤ-negℤ y)
 
-pub sub-neg : (a b : ℕ) → a < b → subℕ a b ≡ negsuc (b - suc a)
-sub-neg a b h = rw (lt-ltb a b h)
+-- (s − x) − (s − y) = y − x
+pub cancel : (s x y : ℤ) → (s -ℤ x) -ℤ (s -ℤ y) ≡ y -ℤ x
+cancel s x y =
+    ap (λ (z : ℤ). s -ℤ x +ℤ z) (turned-round s y)
+    ∙ ap (λ (z : ℤ). z +ℤ (negℤ s +ℤ y)) (+ℤ-comm s (negℤ x))
+    ∙ sym (+ℤ-assoc (negℤ x +ℤ s) (negℤ s) y)
+    ∙ ap (λ (z : ℤ). z +ℤ y) (+ℤ-negℤ-cancel (negℤ x) s)
+    ∙ +ℤ-comm (negℤ x) y
 
--- a − b from the integers a and b
-pub sub-is : (a b : ℕ) → pos a -ℤ pos b ≡ subℕ a b
-sub-is a zero = let e : a + 0 ≡ a - 0 = omega arith in ap pos e ∙ sym (sub-pos a 0 (omega arith))
-sub-is a (suc b) = refl
+pub minus-pos : (a b : ℕ) → b ≤ a → pos a -ℤ pos b ≡ pos (a - b)
+minus-pos a zero h = ap pos (omega arith)
+minus-pos a (suc b) h = rw (le-ltb a (suc b) h)
 
--- (a − b) − c
-less : (a b k : ℕ) (s t : Bool) → ltb a b ≡ s → ltb a (b + suc k) ≡ t
-    → cond s (negsuc (b - suc a)) (pos (a - b)) +ℤ negsuc k ≡ cond t (negsuc (b + suc k - suc a)) (pos (a - (b + suc k)))
-less a b k true true p q = ap negsuc (let h = ltb-true a b p in omega arith)
-less a b k true false p q = absurd (let h = ltb-true a b p in let i = ltb-false a (b + suc k) q in omega arith)
-less a b k false true p q =
-    let h = ltb-false a b p in
-    let i = ltb-true a (b + suc k) q in
-    sub-neg (a - b) (suc k) (omega arith) ∙ ap negsuc (omega arith)
-less a b k false false p q =
-    let h = ltb-false a b p in
-    let i = ltb-false a (b + suc k) q in
-    sub-pos (a - b) (suc k) (omega arith) ∙ ap pos (omega arith)
+-- (s − l) + f = s − (l − f)
+pub back : (s : ℤ) (l f : ℕ) → f ≤ l → s -ℤ pos l +ℤ pos f ≡ s -ℤ pos (l - f)
+back s l f h =
+    +ℤ-assoc s (negℤ (pos l)) (pos f)
+    ∙ ap (λ (z : ℤ). s +ℤ z) (sym (turned-round (pos l) (pos f)) ∙ ap negℤ (minus-pos l f h))
 
-pub sub-less : (a b c : ℕ) → subℕ a b -ℤ pos c ≡ subℕ a (b + c)
-sub-less a b zero = +ℤ-idr (subℕ a b) ∙ ap (subℕ a) (sym (add-zero b))
-sub-less a b (suc k) = less a b k (ltb a b) (ltb a (b + suc k)) refl refl
-
--- (a − b) + c
-more : (a b c : ℕ) (s t : Bool) → ltb a b ≡ s → ltb (a + c) b ≡ t
-    → cond s (negsuc (b - suc a)) (pos (a - b)) +ℤ pos c ≡ cond t (negsuc (b - suc (a + c))) (pos (a + c - b))
-more a b c true true p q =
-    let h = ltb-true (a + c) b q in
-    sub-neg c (suc (b - suc a)) (omega arith) ∙ ap negsuc (omega arith)
-more a b c true false p q =
-    let h = ltb-true a b p in
-    let i = ltb-false (a + c) b q in
-    sub-pos c (suc (b - suc a)) (omega arith) ∙ ap pos (omega arith)
-more a b c false true p q = absurd (let h = ltb-false a b p in let i = ltb-true (a + c) b q in omega arith)
-more a b c false false p q = ap pos (let h = ltb-false a b p in omega arith)
-
-pub sub-more : (a b c : ℕ) → subℕ a b +ℤ pos c ≡ subℕ (a + c) b
-sub-more a b c = more a b c (ltb a b) (ltb (a + c) b) refl refl
-
--- (a − c) − (a − b), for c ≤ b
-pub sub-sub : (a b c : ℕ) → c ≤ b → subℕ a c -ℤ subℕ a b ≡ pos (b - c)
-sub-sub a b c h = go (ltb a b) refl
-  where
-    go : (t : Bool) → ltb a b ≡ t → subℕ a c -ℤ (cond t (negsuc (b - suc a)) (pos (a - b))) ≡ pos (b - c)
-    go true e =
-        let i = ltb-true a b e in
-        sub-more a c (suc (b - suc a)) ∙ sub-pos (a + suc (b - suc a)) c (omega arith) ∙ ap pos (omega arith)
-    go false e =
-        let i = ltb-false a b e in
-        sub-less a c (a - b) ∙ sub-pos a (c + (a - b)) (omega arith) ∙ ap pos (omega arith)
-
--- a − b = c − d where a + d = c + b
-pub sub-same : (a b c d : ℕ) → a + d ≡ c + b → subℕ a b ≡ subℕ c d
-sub-same a b c d e = go (ltb a b) refl
-  where
-    go : (t : Bool) → ltb a b ≡ t → subℕ a b ≡ subℕ c d
-    go true q =
-        let l = ltb-true a b q in
-        sub-neg a b l ∙ ap negsuc (omega arith) ∙ sym (sub-neg c d (omega arith))
-    go false q =
-        let l = ltb-false a b q in
-        sub-pos a b l ∙ ap pos (omega arith) ∙ sym (sub-pos c d (omega arith))
-
--- (a − b) − (a + f − c) = c − (b + f)
-pub sub-both : (a b c f : ℕ) → subℕ a b -ℤ subℕ (a + f) c ≡ subℕ c (b + f)
-sub-both a b c f = go (ltb (a + f) c) refl
-  where
-    go : (t : Bool) → ltb (a + f) c ≡ t → subℕ a b -ℤ (cond t (negsuc (c - suc (a + f))) (pos (a + f - c))) ≡ subℕ c (b + f)
-    go true q =
-        let l = ltb-true (a + f) c q in
-        sub-more a b (suc (c - suc (a + f))) ∙ sub-same (a + suc (c - suc (a + f))) b c (b + f) (omega arith)
-    go false q =
-        let l = ltb-false (a + f) c q in
-        sub-less a b (a + f - c) ∙ sub-same a (b + (a + f - c)) c (b + f) (omega arith)
+-- (s − a) − b = s − (a + b)
+pub twice : (s : ℤ) (a b : ℕ) → s -ℤ pos a -ℤ pos b ≡ s -ℤ pos (a + b)
+twice s a b = +ℤ-assoc s (negℤ (pos a)) (negℤ (pos b)) ∙ ap (λ (z : ℤ). s +ℤ z) (sym (negℤ-+ℤ (pos a) (pos b)))
 
 -- ---- signs
 
-pub not-above : (s t : ℕ) → s ≤ t → ltZ (pos 0) (subℕ s t) ≡ false
-not-above s t h = go (ltb s t) refl
+pub below-is : (a b : ℕ) → ltZ (pos a -ℤ pos b) (pos 0) ≡ ltb a b
+below-is a zero = ap (λ (n : ℕ). ltb n 0) (let e : a + 0 ≡ a = omega arith in e)
+below-is a (suc b) = go (ltb a (suc b)) refl
   where
-    go : (b : Bool) → ltb s t ≡ b → ltZ (pos 0) (cond b (negsuc (t - suc s)) (pos (s - t))) ≡ false
+    go : (t : Bool) → ltb a (suc b) ≡ t → ltZ (cond t (negsuc (suc b - suc a)) (pos (a - suc b))) (pos 0) ≡ t
     go true e = refl
-    go false e = le-ltb 0 (s - t) (let l = ltb-false s t e in omega arith)
+    go false e = le-ltb (a - suc b) 0 (omega arith)
 
-pub above : (s t : ℕ) → ltZ (pos 0) (subℕ s t) ≡ true → t < s
-above s t h = go (ltb s t) refl h
+pub not-above : (a b : ℕ) → a ≤ b → ltZ (pos 0) (pos a -ℤ pos b) ≡ false
+not-above a zero h = le-ltb 0 (a + 0) (omega arith)
+not-above a (suc b) h = go (ltb a (suc b)) refl
   where
-    go : (b : Bool) → ltb s t ≡ b → ltZ (pos 0) (cond b (negsuc (t - suc s)) (pos (s - t))) ≡ true → t < s
-    go true e h = absurd (subst T (sym h) tt)
-    go false e h = let i = ltb-true 0 (s - t) h in omega arith
+    go : (t : Bool) → ltb a (suc b) ≡ t → ltZ (pos 0) (cond t (negsuc (suc b - suc a)) (pos (a - suc b))) ≡ false
+    go true e = refl
+    go false e = le-ltb 0 (a - suc b) (omega arith)
 
-pub below : (s t : ℕ) → ltZ (subℕ s t) (pos 0) ≡ true → s < t
-below s t h = go (ltb s t) refl h
-  where
-    go : (b : Bool) → ltb s t ≡ b → ltZ (cond b (negsuc (t - suc s)) (pos (s - t))) (pos 0) ≡ true → s < t
-    go true e h = ltb-true s t e
-    go false e h = absurd (let i = ltb-true (s - t) 0 h in omega arith)
+-- ---- where d is above 0 and e below
 
-pub level-with : (s t : ℕ) → isZero (subℕ s t) ≡ true → s ≡ t
-level-with s t h = go (ltb s t) refl h
-  where
-    go : (b : Bool) → ltb s t ≡ b → isZero (cond b (negsuc (t - suc s)) (pos (s - t))) ≡ true → s ≡ t
-    go true e h = absurd (subst T (sym h) tt)
-    go false e h = let i = ltb-false s t e in let k = eqb-true (s - t) 0 h in omega arith
+pub wider : (d e : ℤ) → ltZ (pos 0) d ≡ true → ltZ e (pos 0) ≡ true → natAbs d < natAbs (d -ℤ e)
+wider (pos x) (pos y) u v = absurd (omega (arith, ltb-true y 0 v))
+wider (pos x) (negsuc y) u v = omega arith
+wider (negsuc x) e u v = absurd (false≢true u)
+
+pub floored : (r d e : ℤ) → ltZ r (pos 0) ≡ false → ltZ (pos 0) d ≡ true
+    → floorOver (r *ℤ d) (natAbs (d -ℤ e)) ≡ pos (natAbs r * natAbs d / natAbs (d -ℤ e))
+floored (pos r) (pos x) e s u = refl
+floored (pos r) (negsuc x) e s u = absurd (false≢true u)
+floored (negsuc r) d e s u = absurd (true≢false s)
+
+pub part : (r x w : ℕ) → x < w → r * x / w ≤ r
+part r x w h = div-le-of-le-mul w (le-trans (mul-le-mul-left r (le-of-lt h)) (omega (arith, mul-comm r w)))

@@ -1,6 +1,4 @@
 pub mod Bounds
 mod Differences
-mod Interpolated
 pub mod Searching
 mod Sizes
-mod Words

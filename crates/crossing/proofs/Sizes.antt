@@ -1,45 +1,81 @@
--- How large levels are, from the logarithm's facts alone.
+-- How large levels are, from the logarithm's facts alone; sums and differences of small steps; what an answer of the logarithm tells.
 use mathlib.Core.List.{List}
-use mathlib.Core.Path.{_≡_, sym, subst}
-use Prim.Native.Nat.{ℕ, zero, suc, _+_, _*_, _^_, _≤_, _<_}
+use mathlib.Core.Path.{_≡_, refl, sym, ap, ap₂, _∙_, subst}
+use Prim.Native.Nat.{ℕ, zero, suc, _+_, _*_, _-_, _^_, _≤_, _<_}
 use native.Mathlib.Nat.{le-trans, le-of-eq, lt-of-le-of-lt, pow-le-pow-left, two-pow-succ}
 use native.Mathlib.Omega.{arith}
-use lib.IntN.{ℤ, pos, natAbs, _-ℤ_}
-use lib.ListN.{getD}
+use borrow.Author.Tests.{ne-eqb}
+use lib.Dec.{eqb}
+use lib.IntN.{ℤ, pos, negsuc, natAbs}
 use lib.Pow.{pow-pos}
-use Rattle.signed.proofs.Sizes.{abs-minus}
-use Rattle.level.specs.Logarithm.{lev}
-use Rattle.level.proofs.Laws.{facts, pow-lt-cancel}
+use lib.Signed.{mag}
+use mir.Syntax.{w64}
+use mir.Val.{SFits, toZ, ofZ}
+use mir.Facts.{toZ-ofZ}
+use Rattle.signed.proofs.Sizes.{fits}
+use Rattle.level.specs.Logarithm.{lev, levelOf, valueOf}
+use Rattle.level.specs.Types.{activity, stepsOf, thresholds}
+use Rattle.level.specs.declared.Level.{Level}
+use Rattle.level.specs.declared.Level.the-variants.{At, None}
+use Rattle.level.specs.declared.Samples.{Samples}
+use Rattle.level.specs.declared.Steps.{Steps}
+use Rattle.level.proofs.Laws.{facts, pow-lt-cancel, level-read, level-some}
 use Rattle.level.proofs.Powers.{pow-mul}
-use Rattle.crossing.specs.Inner.{Falling}
+use Rattle.crossing.specs.Crossing.{isZero}
+use Rattle.crossing.specs.Inner.FindLevels.{Falling}
+use Rattle.crossing.specs.Inner.Steps.{TwoSmall, stepsIn}
 
 -- 2^l ≤ n^x and n ≤ 2^b give l ≤ b·x
 exponent : (l n b x : ℕ) → 2 ^ l ≤ n ^ x → n ≤ 2 ^ b → l < suc (b * x)
 exponent l n b x h u =
     pow-lt-cancel
     (lt-of-le-of-lt (le-trans h (le-trans (pow-le-pow-left u x) (le-of-eq (sym (pow-mul 2 b x)))))
-    (double (b * x)))
-  where
-    double : (k : ℕ) → 2 ^ k < 2 ^ suc k
-    double k = omega (arith, two-pow-succ k, pow-pos k)
+    (omega (arith, two-pow-succ (b * x), pow-pos (b * x))))
 
 pub lev-max : (n : ℕ) → 1 ≤ n → n ≤ 2 ^ 80 → lev n < 2 ^ 19
 lev-max n h u = omega (arith, exponent (lev n) n 80 4096 (facts .at-most n h u) u)
 
-pub word : (n : ℕ) → n < 2 ^ 64 → n ≤ 2 ^ 80
-word n h = omega arith
+-- an answer for a number in range holds its level
+pub level-known : (n : ℕ) (r : Level) → 1 ≤ n → n ≤ 2 ^ 80 → valueOf r ≡ levelOf n → stepsIn r ≡ pos (lev n)
+level-known n (At s) h u e = level-read n (At s) s h u e refl
+level-known n None h u e = absurd (level-some n None h u e refl)
 
--- A_j and d_j, for a count n
-pub active-small : (S : ℤ) (n : ℕ) → natAbs S ≤ 2 ^ 20 → 1 ≤ n → n ≤ 2 ^ 80 → natAbs (S -ℤ pos (lev n)) ≤ 2 ^ 21
-active-small S n b h u = omega (arith, abs-minus S (pos (lev n)), lev-max n h u)
+-- counts that fall: each is at most the one before, and the first
+pub falls : (a : List Samples) → Falling a → (j : ℕ) → j < thresholds → 1 ≤ j → activity a j ≤ activity a (j - 1)
+falls a f j l h = let e : j - 1 + 1 ≡ j = omega arith in subst (λ (k : ℕ). activity a k ≤ activity a (j - 1)) e (f .falls (j - 1) (omega arith))
 
-pub excess-small : (S : ℤ) (n j : ℕ) → natAbs S ≤ 2 ^ 20 → 1 ≤ n → n ≤ 2 ^ 80 → j < 15 → natAbs (S -ℤ pos (lev n) -ℤ pos (8192 * j) -ℤ pos 21635) ≤ 2 ^ 22
-excess-small S n j b h u l =
-    omega (arith, abs-minus (S -ℤ pos (lev n) -ℤ pos (8192 * j)) (pos 21635), abs-minus (S -ℤ pos (lev n)) (pos (8192 * j)), active-small S n b h u)
-
--- counts that fall are never above the first
-pub few : (a : List ℕ) → Falling a → (j : ℕ) → j < 15 → getD a j 0 ≤ 2 ^ 80
+pub few : (a : List Samples) → Falling a → (j : ℕ) → j < thresholds → activity a j ≤ 2 ^ 80
 few a f zero l = f .few
 few a f (suc j) l =
-    let n : j + 1 ≡ suc j = omega arith in
-    le-trans (subst (λ (k : ℕ). getD a k 0 ≤ getD a j 0) n (f .falls j (omega arith))) (few a f j (omega arith))
+    let e : j ≡ suc j - 1 = omega arith in
+    le-trans (falls a f (suc j) l (omega arith)) (subst (λ (k : ℕ). activity a k ≤ 2 ^ 80) e (few a f j (omega arith)))
+
+-- ---- steps as the code holds them
+
+pub held : {r : Steps} {x : ℤ} → r ≡ stepsOf x → r .0 ≡ x
+held e = ap (λ (s : Steps). s .0) e
+
+-- a word that holds x, and the test of it against 0
+pub word : {v x : ℤ} → mag v < 2 ^ 63 → v ≡ x → toZ w64 (ofZ w64 v) ≡ x
+word h e = toZ-ofZ (record { sfits = h }) ∙ e
+
+pub zero-test : (z : ℤ) → mag z < 2 ^ 63 → eqb (ofZ w64 z) 0 ≡ isZero z
+zero-test (pos n) h = refl
+zero-test (negsuc n) h = ne-eqb (ofZ w64 (negsuc n)) 0 (λ (e : ofZ w64 (negsuc n) ≡ 0). omega (arith, e))
+
+-- two small steps, and a sum or a difference of them
+module _ (op : ℤ → ℤ → ℤ) (bound : (x y : ℤ) → natAbs (op x y) ≤ natAbs x + natAbs y) {x y v w : ℤ} (t : TwoSmall x y) (e : v ≡ x) (f : w ≡ y) where
+  abbrev words : ℤ
+  words = op (toZ w64 (ofZ w64 v)) (toZ w64 (ofZ w64 w))
+
+  read : words ≡ op x y
+  read = rw (e, f) (ap₂ op (toZ-ofZ (fits x (omega (arith, t .first)))) (toZ-ofZ (fits y (omega (arith, t .second)))))
+
+  whole : SFits w64 (op x y)
+  whole = fits (op x y) (omega (arith, bound x y, t .first, t .second))
+
+  pub op-fits : SFits w64 words
+  op-fits = subst (SFits w64) (sym read) whole
+
+  pub op-is : {r : Steps} → r ≡ stepsOf (toZ w64 (ofZ w64 words)) → r .0 ≡ op x y
+  op-is h = held h ∙ ap (λ (z : ℤ). toZ w64 (ofZ w64 z)) read ∙ toZ-ofZ whole

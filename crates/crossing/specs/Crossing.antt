@@ -5,8 +5,9 @@ use mathlib.Core.Option.{Option, none, some}
 use Prim.Native.Nat.{ℕ, zero, suc, _+_, _-_}
 use lib.Dec.{eqb, leb, ltb}
 use lib.IntN.{ℤ, pos, negsuc, natAbs, _+ℤ_, _-ℤ_, _*ℤ_}
-use lib.ListN.{getD}
 use lib.Signed.{ltZ, shrZ}
+use Rattle.level.specs.Types.{activity, thresholds}
+use Rattle.level.specs.declared.Samples.{Samples}
 use Rattle.crossing.specs.Levels.{activeAt, excess}
 
 abbrev pub isZero : ℤ → Bool
@@ -14,10 +15,10 @@ isZero (pos n) = eqb n 0
 isZero (negsuc n) = false
 
 -- whether there is a crossing at j: the count is above 0, and d is 0 there, or it turns from above 0 to below it from the place before to this one
-unfoldable pub isCrossing : (M : ℕ) (S : ℤ) (a : List ℕ) (j : ℕ) → Bool
+unfoldable pub isCrossing : (M S : ℤ) (a : List Samples) (j : ℕ) → Bool
 isCrossing M S a j =
     let d = excess M S a in
-    ltb 0 (getD a j 0) && (isZero (d j) || (leb 1 j && ltZ (pos 0) (d (j - 1)) && ltZ (d j) (pos 0)))
+    ltb 0 (activity a j) && (isZero (d j) || (leb 1 j && ltZ (pos 0) (d (j - 1)) && ltZ (d j) (pos 0)))
 
 -- the lowest of j, j + 1, .., k of them, at which f holds
 unfoldable pub lowestFrom : (ℕ → Bool) → (j k : ℕ) → Option ℕ
@@ -25,11 +26,11 @@ lowestFrom f j zero = none
 lowestFrom f j (suc k) = cond (f j) (some j) (lowestFrom f (j + 1) k)
 
 -- the lowest crossing
-unfoldable pub crossing : (M : ℕ) (S : ℤ) (a : List ℕ) → Option ℕ
-crossing M S a = lowestFrom (isCrossing M S a) 0 15
+unfoldable pub crossing : (M S : ℤ) (a : List Samples) → Option ℕ
+crossing M S a = lowestFrom (isCrossing M S a) 0 thresholds
 
 -- a crossing's lower and upper threshold
-unfoldable pub lowerOf : (M : ℕ) (S : ℤ) (a : List ℕ) (j : ℕ) → ℕ
+unfoldable pub lowerOf : (M S : ℤ) (a : List Samples) (j : ℕ) → ℕ
 lowerOf M S a j = cond (isZero (excess M S a j)) j (j - 1)
 
 abbrev pub upperOf : (j : ℕ) → ℕ
@@ -40,7 +41,7 @@ abbrev pub floorOver : ℤ → ℕ → ℤ
 floorOver z n = shrZ z n
 
 -- A at a crossing j: A_j where d_j is 0, else A_(j−1) + floor((A_j − A_(j−1))·d_(j−1) / (d_(j−1) − d_j))
-unfoldable pub activeLevel : (M : ℕ) (S : ℤ) (a : List ℕ) (j : ℕ) → ℤ
+unfoldable pub activeLevel : (M S : ℤ) (a : List Samples) (j : ℕ) → ℤ
 activeLevel M S a j =
     let A = activeAt S a in
     let d = excess M S a in

@@ -1,4 +1,4 @@
 pub mod Crossing
-pub mod Found
 pub mod Inner
 pub mod Levels
+pub mod Searched

@@ -1,12 +1,9 @@
 // The active level at a crossing.
-ghost use mathlib.Core.Bool.{true};
-ghost use mathlib.Core.Path.{_≡_};
-ghost use Prim.Native.Nat.{_*_, _/_, _≤_, _<_, _^_};
-ghost use lib.IntN.{pos, natAbs, _+ℤ_, _-ℤ_};
-ghost use Rattle.crossing.specs.Crossing.{isCrossing, lowerOf, activeLevel};
-ghost use Rattle.crossing.specs.Inner.{Falling, Power};
+ghost use Rattle.crossing.specs.Inner.Interpolation.{Around, AtCrossing, IsActive, IsBetween};
 use crate::steps;
+use level::Samples;
 use level::Steps;
+use level::THRESHOLDS;
 
 // The active level at a crossing, and the crossing's lower threshold.
 pub struct Active {
@@ -15,22 +12,23 @@ pub struct Active {
 }
 
 // At a crossing j: A_j where d_j is 0, else between A_(j−1) and A_j.
-pub(crate) fn at_crossing(power: Steps, a: &[u64; 15], j: usize) -> Active
-    requires { ⌜ Power (power .0) × Falling (now a) ⌝ }
-    requires { ⌜ (j < 15) × (isCrossing 21635 (power .0) (now a) j ≡ true) ⌝ }
-    ensures { λ r. ⌜ (r .level .0 ≡ activeLevel 21635 (power .0) (now (a .entry)) j) × (r .lower ≡ lowerOf 21635 (power .0) (now (a .entry)) j) ⌝ }
+pub(crate) fn at_crossing(power: Steps, a: [Samples; THRESHOLDS], j: usize, margin: Steps) -> Active
+    requires { ⌜ AtCrossing (margin .0) (power .0) a j ⌝ }
+    ensures { λ r. ⌜ IsActive (margin .0) (power .0) a j r ⌝ }
 {
-    let upper = steps::minus(power, steps::of_count(a[j]));
-    let after = steps::excess(power, a[j], j);
-    if after.0 == 0 {
+    let count = a[j];
+    let upper = steps::over(power, count);
+    let after = steps::excess(power, count, j, margin);
+    if steps::is_zero(after) {
         return Active {
             level: upper,
             lower: j,
         };
     }
     let i = j - 1;
-    let lower = steps::minus(power, steps::of_count(a[i]));
-    let before = steps::excess(power, a[i], i);
+    let count_before = a[i];
+    let lower = steps::over(power, count_before);
+    let before = steps::excess(power, count_before, i, margin);
     Active {
         level: between(lower, upper, before, after),
         lower: i,
@@ -39,13 +37,12 @@ pub(crate) fn at_crossing(power: Steps, a: &[u64; 15], j: usize) -> Active
 
 // The level that lies between two as 0 lies between two differences, rounded towards the first.
 fn between(lower: Steps, upper: Steps, before: Steps, after: Steps) -> Steps
-    requires { ⌜ (natAbs (lower .0) ≤ 2 ^ 21) × (natAbs (upper .0) ≤ 2 ^ 21) ⌝ }
-    requires { ⌜ (natAbs (before .0) ≤ 2 ^ 22) × ((natAbs (after .0) ≤ 2 ^ 22) × (0 < natAbs (before .0 -ℤ after .0))) ⌝ }
-    ensures { λ r. ⌜ r .0 ≡ lower .0 +ℤ pos (natAbs (upper .0 -ℤ lower .0) * natAbs (before .0) / natAbs (before .0 -ℤ after .0)) ⌝ }
+    requires { ⌜ Around (lower .0) (upper .0) (before .0) (after .0) ⌝ }
+    ensures { λ r. ⌜ IsBetween (lower .0) (upper .0) (before .0) (after .0) (r .0) ⌝ }
 {
     let rise = steps::minus(upper, lower);
     let width = steps::minus(before, after);
-    let part = signed::magnitude(rise.0) * signed::magnitude(before.0) / signed::magnitude(width.0);
+    let part = steps::size(rise) * steps::size(before) / steps::size(width);
     let more = part as i64;
-    steps::plus(lower, Steps(more))
+    steps::plus(lower, Steps::of(more))
 }

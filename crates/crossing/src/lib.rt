@@ -4,13 +4,14 @@ mod lowest;
 mod steps;
 
 ghost use mathlib.Core.Path.{_≡_};
-ghost use Rattle.level.specs.Logarithm.{number};
-ghost use Rattle.crossing.specs.Found.{said, searched};
-ghost use Rattle.crossing.specs.Inner.{Measured};
+ghost use Rattle.level.specs.Types.{twoWords};
+ghost use Rattle.crossing.specs.Inner.FindLevels.{Measured};
+ghost use Rattle.crossing.specs.Searched.{said, searched};
 use crate::lowest::Place;
 use level::Samples;
 use level::Squares;
 use level::Steps;
+use level::THRESHOLDS;
 
 // The long-term level L, the active level A, the threshold C and the activity factor F, in steps;
 // the lower and the upper threshold of the crossing.
@@ -32,28 +33,28 @@ pub enum Found {
 }
 
 // The levels of n samples with the sum of squares sq and the activity counts a.
-pub fn find_levels(n: Samples, sq: Squares, a: &[u64; 15]) -> Found
-    requires { ⌜ Measured (n .0) (number sq) (now a) ⌝ }
-    ensures { λ r. ⌜ said r ≡ searched (n .0) (number sq) (now (a .entry)) ⌝ }
+pub fn find_levels(n: Samples, sq: Squares, a: [Samples; THRESHOLDS], margin: Steps) -> Found
+    requires { ⌜ Measured (margin .0) (n .0) (twoWords sq) a ⌝ }
+    ensures { λ r. ⌜ said r ≡ searched (margin .0) (n .0) (twoWords sq) a ⌝ }
 {
-    let power = steps::of_squares(sq);
-    match lowest::crossing(power, a) {
+    let power = steps::known(sq.level());
+    match lowest::crossing(power, a, margin) {
         Place::At(j) => {
-            let level = steps::minus(power, steps::of_count(n.0));
-            let at = interpolation::at_crossing(power, a, j);
+            let level = steps::over(power, n);
+            let at = interpolation::at_crossing(power, a, j, margin);
             let active = at.level;
             Found::At(Levels {
                 level,
                 active,
-                threshold: steps::minus(active, Steps(21635)),
+                threshold: steps::minus(active, margin),
                 factor: steps::minus(level, active),
                 lower: at.lower as u64,
                 upper: j as u64,
             })
         }
         Place::Nowhere => {
-            let first = steps::excess(power, a[0], 0);
-            if first.0 < 0 {
+            let first = steps::excess(power, a[0], 0, margin);
+            if steps::below_zero(first) {
                 Found::Below
             } else {
                 Found::Above

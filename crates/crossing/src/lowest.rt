@@ -4,9 +4,11 @@ ghost use mathlib.Core.Path.{_≡_};
 ghost use lib.IntN.{pos};
 ghost use lib.Signed.{ltZ};
 ghost use Rattle.crossing.specs.Crossing.{isZero, crossing as crossingOf};
-ghost use Rattle.crossing.specs.Inner.{Falling, Power, placeOf};
+ghost use Rattle.crossing.specs.Inner.Search.{Searchable, placeOf};
 use crate::steps;
+use level::Samples;
 use level::Steps;
+use level::THRESHOLDS;
 
 // The place of a crossing, if there is one.
 pub enum Place {
@@ -15,37 +17,36 @@ pub enum Place {
 }
 
 // The lowest crossing. Counts fall, so past the first that is 0 there is none.
-pub(crate) fn crossing(power: Steps, a: &[u64; 15]) -> Place
-    requires { ⌜ Power (power .0) × Falling (now a) ⌝ }
-    ensures { λ r. ⌜ placeOf r ≡ crossingOf 21635 (power .0) (now (a .entry)) ⌝ }
+pub(crate) fn crossing(power: Steps, a: [Samples; THRESHOLDS], margin: Steps) -> Place
+    requires { ⌜ Searchable (margin .0) (power .0) a ⌝ }
+    ensures { λ r. ⌜ placeOf r ≡ crossingOf (margin .0) (power .0) a ⌝ }
 {
-    let mut before = steps::excess(power, a[0], 0);
+    let mut above = false;
     let mut j = 0;
-    while j < 15 {
+    while j < THRESHOLDS {
         let count = a[j];
-        if count == 0 {
+        if count.count() == 0 {
             return Place::Nowhere;
         }
-        let here = steps::excess(power, count, j);
-        if crosses(before, here) {
+        let here = steps::excess(power, count, j, margin);
+        if crosses(above, here) {
             return Place::At(j);
         }
-        before = here;
+        above = steps::above_zero(here);
         j += 1;
     }
     Place::Nowhere
 }
 
-// Whether the difference is 0, or turned from above 0 to below it.
-fn crosses(before: Steps, here: Steps) -> bool
-    ensures { λ r. ⌜ r ≡ isZero (here .0) || (ltZ (pos 0) (before .0) && ltZ (here .0) (pos 0)) ⌝ }
+// Whether the difference is 0, or below 0 where the one before was above it.
+fn crosses(above: bool, here: Steps) -> bool
+    ensures { λ r. ⌜ r ≡ isZero (here .0) || (above && ltZ (here .0) (pos 0)) ⌝ }
 {
-    let d = here.0;
-    if d == 0 {
+    if steps::is_zero(here) {
         return true;
     }
-    if before.0 <= 0 {
-        return false;
+    if above {
+        return steps::below_zero(here);
     }
-    d < 0
+    false
 }

@@ -1,60 +1,77 @@
-// Levels in steps, and their differences.
+// Levels in steps, their differences, sizes and signs.
 ghost use mathlib.Core.Path.{_≡_};
-ghost use Prim.Native.Nat.{_*_, _^_, _≤_, _<_};
-ghost use lib.IntN.{pos, _+ℤ_, _-ℤ_};
-ghost use Rattle.level.specs.Logarithm.{number, lev};
-ghost use Rattle.crossing.specs.Inner.{Small, Power};
+ghost use lib.IntN.{pos, natAbs, _+ℤ_, _-ℤ_};
+ghost use lib.Signed.{ltZ};
+ghost use Rattle.crossing.specs.Crossing.{isZero};
+ghost use Rattle.crossing.specs.Inner.Steps.{TwoSmall, OverCount, Placed, IsLevel, IsExcess, stepsIn};
 use level::Level;
 use level::Samples;
-use level::Squares;
 use level::Steps;
 
-// lev(sq)
-pub(crate) fn of_squares(sq: Squares) -> Steps
-    requires { ⌜ (1 ≤ number sq) × (number sq ≤ 2 ^ 80) ⌝ }
-    ensures { λ r. ⌜ r .0 ≡ pos (lev (number sq)) ⌝ }
-{
-    match sq.level() {
-        Level::At(steps) => steps,
-        Level::None => Steps(0),
-    }
-}
+// C_(j+1) − C_j
+const STEPS_A_THRESHOLD: usize = 8192;
 
-// lev of a count
-pub(crate) fn of_count(count: u64) -> Steps
-    requires { ⌜ 1 ≤ count ⌝ }
-    ensures { λ r. ⌜ r .0 ≡ pos (lev count) ⌝ }
+// The steps of a level, 0 where there is none.
+pub(crate) fn known(level: Level) -> Steps
+    ensures { λ r. ⌜ r .0 ≡ stepsIn level ⌝ }
 {
-    match Samples(count).level() {
+    match level {
         Level::At(steps) => steps,
-        Level::None => Steps(0),
+        Level::None => Steps::of(0),
     }
 }
 
 pub(crate) fn minus(x: Steps, y: Steps) -> Steps
-    requires { ⌜ Small (x .0) × Small (y .0) ⌝ }
+    requires { ⌜ TwoSmall (x .0) (y .0) ⌝ }
     ensures { λ r. ⌜ r .0 ≡ x .0 -ℤ y .0 ⌝ }
 {
-    let a = x.0;
-    let b = y.0;
-    Steps(a - b)
+    Steps::of(x.value() - y.value())
 }
 
 pub(crate) fn plus(x: Steps, y: Steps) -> Steps
-    requires { ⌜ Small (x .0) × Small (y .0) ⌝ }
+    requires { ⌜ TwoSmall (x .0) (y .0) ⌝ }
     ensures { λ r. ⌜ r .0 ≡ x .0 +ℤ y .0 ⌝ }
 {
-    let a = x.0;
-    let b = y.0;
-    Steps(a + b)
+    Steps::of(x.value() + y.value())
+}
+
+// L and A_j: a level less that of a count above 0
+pub(crate) fn over(power: Steps, count: Samples) -> Steps
+    requires { ⌜ OverCount (power .0) (count .0) ⌝ }
+    ensures { λ r. ⌜ IsLevel (power .0) (count .0) (r .0) ⌝ }
+{
+    minus(power, known(count.level()))
 }
 
 // d_j = A_j − C_j − M, for a count a_j above 0
-pub(crate) fn excess(power: Steps, count: u64, j: usize) -> Steps
-    requires { ⌜ Power (power .0) × ((1 ≤ count) × (j < 15)) ⌝ }
-    ensures { λ r. ⌜ r .0 ≡ power .0 -ℤ pos (lev count) -ℤ pos (8192 * j) -ℤ pos 21635 ⌝ }
+pub(crate) fn excess(power: Steps, count: Samples, j: usize, margin: Steps) -> Steps
+    requires { ⌜ Placed (margin .0) (power .0) (count .0) j ⌝ }
+    ensures { λ r. ⌜ IsExcess (margin .0) (power .0) (count .0) j (r .0) ⌝ }
 {
-    let active = minus(power, of_count(count));
-    let threshold = Steps((8192 * j) as i64);
-    minus(minus(active, threshold), Steps(21635))
+    let threshold = (STEPS_A_THRESHOLD * j) as i64;
+    minus(minus(over(power, count), Steps::of(threshold)), margin)
+}
+
+pub(crate) fn size(x: Steps) -> u64
+    ensures { λ r. ⌜ r ≡ natAbs (x .0) ⌝ }
+{
+    signed::magnitude(x.value())
+}
+
+pub(crate) fn is_zero(x: Steps) -> bool
+    ensures { λ r. ⌜ r ≡ isZero (x .0) ⌝ }
+{
+    x.value() == 0
+}
+
+pub(crate) fn above_zero(x: Steps) -> bool
+    ensures { λ r. ⌜ r ≡ ltZ (pos 0) (x .0) ⌝ }
+{
+    0 < x.value()
+}
+
+pub(crate) fn below_zero(x: Steps) -> bool
+    ensures { λ r. ⌜ r ≡ ltZ (x .0) (pos 0) ⌝ }
+{
+    x.value() < 0
 }

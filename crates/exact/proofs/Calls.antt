@@ -18,16 +18,18 @@ use Rattle.setting.specs.Settings.{kOf, iOf}
 use Rattle.block.specs.Block.{number, rateCode, count, before, samplesAt, samples as samplesIn}
 use Rattle.block.specs.Refusals.{wrongRate, blockRules, sound}
 use Rattle.block.proofs.Laws.{sound-is, is-sound, signed-fits, samples-at-length}
-use Rattle.sample.specs.Sample.{freshState, samples}
+use Rattle.sample.specs.declared.Counting.{Counting}
+use Rattle.sample.specs.Envelope.{smoothing}
+use Rattle.sample.specs.Sample.{mostSamples, freshState, stateAfter}
 use Rattle.meter.specs.declared.Meter.{Meter}
 use Rattle.meter.specs.Refusals.{unnamedCode, longChunk, wrongPlace, tooMany, openRules, chunkRules, blockCallRules}
-use Rattle.meter.specs.Calls.{fresh, afterSamples, openCall, chunkCall, blockCall}
+use Rattle.meter.specs.Calls.{fresh, countingOf, afterSamples, openCall, chunkCall, blockCall}
 use Rattle.meter.proofs.Laws.{open-given, chunk-given, block-given, opened}
 use Rattle.meter.proofs.Possible.{Possible, passes}
-use Rattle.exact.specs.Calls.{Call, chunk, block, AllSamples, Typed, samplesOf}
+use Rattle.exact.specs.Calls.{Call, chunk, block, AllSamples, Typed, broughtBy}
 use Rattle.exact.specs.Exact.{E, startAt, start, takeAll, accepts, fed, exactly, answersOfE, took}
 use Rattle.exact.specs.Lists.{called, accepted, after, answers, taken}
-use Rattle.exact.proofs.Tied.{Tied, same-code, same-K, same-I, total, tied-samples, tied-fresh}
+use Rattle.exact.proofs.Tied.{by, Tied, same-code, same-K, same-I, total, tied-samples, tied-fresh}
 
 -- ---- the invariant
 
@@ -36,17 +38,17 @@ pub record Good (m : Meter) (e : E) : Type 0 where
   pub K-is : e .K ≡ rowOf (e .code) .k
   pub I-is : e .I ≡ rowOf (e .code) .i
   pub code : m .setting .code ≡ e .code
-  pub few : m .state .sums .n ≤ 2 ^ 48
+  pub few : m .state .sums .n .0 ≤ mostSamples
   pub tied : Tied (rowOf (e .code) .d) (m .state) e
 
 module _ (m : Meter) (e : E) (g : Good m e) where
-  k-of : kOf (m .setting) ≡ e .K
-  unfolding kOf
-  k-of = ap (λ (c : ℕ). rowOf c .k) (g .code) ∙ sym (g .K-is)
-
   i-of : iOf (m .setting) ≡ e .I
   unfolding iOf
   i-of = ap (λ (c : ℕ). rowOf c .i) (g .code) ∙ sym (g .I-is)
+
+  by-of : countingOf (m .setting) ≡ by e
+  unfolding countingOf kOf iOf
+  by-of = ap₂ (λ (k i : ℕ). record { k = k; i = i }) (ap (λ (c : ℕ). rowOf c .k) (g .code) ∙ sym (g .K-is)) (ap (λ (c : ℕ). rowOf c .i) (g .code) ∙ sym (g .I-is))
 
   pub good-possible : Possible m
   good-possible =
@@ -68,10 +70,10 @@ module _ (m : Meter) (e : E) (g : Good m e) where
   chunk-agree : (xs : List ℤ) → NoneApplies (chunkRules m xs) ↔ (accepts e (chunk xs) ≡ true)
   unfolding NoneApplies chunkRules accepts longChunk tooMany
   chunk-agree xs = (
-    λ n. simp (le-leb _ _ (ltb-false 4096 (length xs) (n .1 .0)), le-leb (e .y + length xs) (2 ^ 48) (omega (arith, ltb-false (2 ^ 48) (m .state .sums .n + length xs) (n .1 .1 .0), g .tied .taken))),
+    λ n. simp (le-leb _ _ (ltb-false 4096 (length xs) (n .1 .0)), le-leb (e .y + length xs) mostSamples (omega (arith, ltb-false mostSamples (m .state .sums .n .0 + length xs) (n .1 .1 .0), g .tied .taken))),
     λ h. let p = both (leb (length xs) 4096) _ h in (
       passes m good-possible,
-      (le-ltb 4096 (length xs) (leb-true _ _ (p .0)), (le-ltb (2 ^ 48) (m .state .sums .n + length xs) (omega (arith, leb-true (e .y + length xs) (2 ^ 48) (p .1), g .tied .taken)), tt)),
+      (le-ltb 4096 (length xs) (leb-true _ _ (p .0)), (le-ltb mostSamples (m .state .sums .n .0 + length xs) (omega (arith, leb-true (e .y + length xs) mostSamples (p .1), g .tied .taken)), tt)),
     ),
   )
 
@@ -95,14 +97,14 @@ module _ (m : Meter) (e : E) (g : Good m e) where
           fits,
           eq-eqb _ _ rate,
           eq-eqb (before b) (e .y) (eqb-true _ _ (not-false _ (n10 .0)) ∙ g .tied .taken),
-          le-leb (e .y + count b) (2 ^ 48) (omega (arith, ltb-false (2 ^ 48) (m .state .sums .n + count b) (n10 .1 .0), g .tied .taken)),
+          le-leb (e .y + count b) mostSamples (omega (arith, ltb-false mostSamples (m .state .sums .n .0 + count b) (n10 .1 .0), g .tied .taken)),
         ),
     λ h. let h4 = both (sound b && eqb (rateCode b) (e .code) && eqb (before b) (e .y)) _ h in
         let h3 = both (sound b && eqb (rateCode b) (e .code)) _ (h4 .0) in
         let h2 = both (sound b) _ (h3 .0) in
         let s = sound-is b (h2 .0) in
         let rate = eq-eqb (rateCode b) (m .setting .code) (eqb-true _ _ (h2 .1) ∙ sym (g .code)) in
-        let place = eq-eqb (before b) (m .state .sums .n) (eqb-true _ _ (h3 .1) ∙ sym (g .tied .taken)) in (
+        let place = eq-eqb (before b) (m .state .sums .n .0) (eqb-true _ _ (h3 .1) ∙ sym (g .tied .taken)) in (
           passes m good-possible,
           (
             s .length-ok,
@@ -118,7 +120,7 @@ module _ (m : Meter) (e : E) (g : Good m e) where
                       s .unused-ok,
                       (
                         ap not place,
-                        (le-ltb (2 ^ 48) (m .state .sums .n + count b) (omega (arith, leb-true (e .y + count b) (2 ^ 48) (h4 .1), g .tied .taken)), tt),
+                        (le-ltb mostSamples (m .state .sums .n .0 + count b) (omega (arith, leb-true (e .y + count b) mostSamples (h4 .1), g .tied .taken)), tt),
                       ),
                     ),
                   ),
@@ -140,7 +142,7 @@ module _ (m : Meter) (e : E) (g : Good m e) where
   agree (block b) = same-test _ _ (block-given m b .0 .accepted) (block-agree b)
 
   -- the tie is kept by the samples of an accepted call
-  good-samples : (xs : List ℤ) → AllSamples xs → e .y + length xs ≤ 2 ^ 48 → Good (afterSamples m xs) (takeAll e xs)
+  good-samples : (xs : List ℤ) → AllSamples xs → e .y + length xs ≤ mostSamples → Good (afterSamples m xs) (takeAll e xs)
   unfolding afterSamples
   good-samples xs f room =
       record {
@@ -148,20 +150,19 @@ module _ (m : Meter) (e : E) (g : Good m e) where
         K-is = same-K xs e ∙ g .K-is ∙ ap (λ (c : ℕ). rowOf c .k) (sym (same-code xs e));
         I-is = same-I xs e ∙ g .I-is ∙ ap (λ (c : ℕ). rowOf c .i) (sym (same-code xs e));
         code = g .code ∙ sym (same-code xs e);
-        few = subst (λ (n : ℕ). n ≤ 2 ^ 48) (sym (tied-on .taken ∙ total xs e)) room;
-        tied = subst (λ (c : ℕ). Tied (rowOf c .d) (samples (kOf (m .setting)) (iOf (m .setting)) (m .state) xs) (takeAll e xs)) (sym (same-code xs e)) tied-on;
+        few = subst (λ (n : ℕ). n ≤ mostSamples) (sym (tied-on .taken ∙ total xs e)) room;
+        tied = subst (λ (c : ℕ). Tied (rowOf c .d) (stateAfter (countingOf (m .setting)) (m .state) xs) (takeAll e xs)) (sym (same-code xs e)) tied-on;
       }
     where
-      tied-on : Tied (rowOf (e .code) .d) (samples (kOf (m .setting)) (iOf (m .setting)) (m .state) xs) (takeAll e xs)
+      tied-on : Tied (rowOf (e .code) .d) (stateAfter (countingOf (m .setting)) (m .state) xs) (takeAll e xs)
       tied-on =
           let r = row-keeps (e .code) (g .named) in
-          subst (λ (k : ℕ). Tied (rowOf (e .code) .d) (samples k (iOf (m .setting)) (m .state) xs) (takeAll e xs)) (sym k-of)
-          (subst (λ (i : ℕ). Tied (rowOf (e .code) .d) (samples (e .K) i (m .state) xs) (takeAll e xs)) (sym i-of)
+          subst (λ (c : Counting). Tied (rowOf (e .code) .d) (stateAfter c (m .state) xs) (takeAll e xs)) (sym by-of)
           (tied-samples (rowOf (e .code) .d) xs (m .state) e
           (subst (λ (k : ℕ). 1 ≤ k) (sym (g .K-is)) (r .k-low))
-          (subst (λ (k : ℕ). k ≤ 2 ^ 20) (sym (g .K-is)) (r .k-high))
+          (subst (λ (k : ℕ). k ≤ smoothing) (sym (g .K-is)) (r .k-high))
           (subst (λ (k : ℕ). 2 ^ 21 ≤ rowOf (e .code) .d * k) (sym (g .K-is)) (r .d-rule .not-below))
-          f (g .tied)))
+          f (g .tied))
 
 -- ---- a call, and a list of calls
 
@@ -172,31 +173,31 @@ block-samples b at zero = tt
 block-samples b at (suc k) = (signed-fits (number b at 2), block-samples b (at + 2) k)
 
 good-taken : (m : Meter) (e : E) (g : Good m e) (call : Call) → Typed (call ∷ []) → accepts e call ≡ true
-    → Good (afterSamples m (samplesOf call)) (takeAll e (samplesOf call))
-unfolding accepts samplesOf Typed samplesIn
+    → Good (afterSamples m (broughtBy call)) (takeAll e (broughtBy call))
+unfolding accepts broughtBy Typed samplesIn
 good-taken m e g (chunk xs) f h = good-samples m e g xs (f .0) (leb-true _ _ (both (leb (length xs) 4096) _ h .1))
 good-taken m e g (block b) f h =
     good-samples m e g (samplesAt b 12 (count b)) (block-samples b 12 (count b))
-    (subst (λ (k : ℕ). e .y + k ≤ 2 ^ 48) (sym (samples-at-length b 12 (count b))) (leb-true _ _ (both (sound b && eqb (rateCode b) (e .code) && eqb (before b) (e .y)) _ h .1)))
+    (subst (λ (k : ℕ). e .y + k ≤ mostSamples) (sym (samples-at-length b 12 (count b))) (leb-true _ _ (both (sound b && eqb (rateCode b) (e .code) && eqb (before b) (e .y)) _ h .1)))
 
 -- what a call hands back, by its answer
-pub handed-meter : (m : Meter) (call : Call) → called m call .meter ≡ cond (accepted m call) (afterSamples m (samplesOf call)) m
-unfolding accepted called chunkCall blockCall samplesOf
+pub handed-meter : (m : Meter) (call : Call) → called m call .meter ≡ cond (accepted m call) (afterSamples m (broughtBy call)) m
+unfolding accepted called chunkCall blockCall broughtBy
 handed-meter m (chunk xs) = refl
 handed-meter m (block b) = refl
 
 pub call-meter : (m : Meter) (e : E) → Good m e → (call : Call)
-    → called m call .meter ≡ cond (accepts e call) (afterSamples m (samplesOf call)) m
+    → called m call .meter ≡ cond (accepts e call) (afterSamples m (broughtBy call)) m
 call-meter m e g call =
     handed-meter m call
-    ∙ ap (λ (t : Bool). cond t (afterSamples m (samplesOf call)) m) (agree m e g call)
+    ∙ ap (λ (t : Bool). cond t (afterSamples m (broughtBy call)) m) (agree m e g call)
 
 pub good-call : (m : Meter) (e : E) → Good m e → (call : Call) → Typed (call ∷ []) → Good (called m call .meter) (fed e call)
 unfolding fed
 good-call m e g call f = subst (λ (n : Meter). Good n (fed e call)) (sym (call-meter m e g call)) (go (accepts e call) refl)
   where
     go : (t : Bool) → accepts e call ≡ t
-        → Good (cond t (afterSamples m (samplesOf call)) m) (cond t (takeAll e (samplesOf call)) e)
+        → Good (cond t (afterSamples m (broughtBy call)) m) (cond t (takeAll e (broughtBy call)) e)
     go true h = good-taken m e g call f h
     go false h = g
 
@@ -226,7 +227,7 @@ same-samples [] m e f g = refl
 same-samples (call ∷ calls) m e f g =
     let s = split call calls f in
     ap₂ _++_
-    (ap (λ (t : Bool). cond t (samplesOf call) []) (agree m e g call))
+    (ap (λ (t : Bool). cond t (broughtBy call) []) (agree m e g call))
     (same-samples calls (called m call .meter) (fed e call) (s .1) (good-call m e g call (s .0)))
 
 -- ---- from the opening on

@@ -5,21 +5,21 @@ use mathlib.Core.List.{List, [], _∷_}
 use mathlib.Core.Path.{_≡_, refl, sym, _∙_, subst}
 use Prim.Native.Nat.{ℕ, _+_, _*_, _^_, _≤_, _<_}
 use native.Mathlib.Omega.{arith}
-use lib.ListN.{getD}
-use Rattle.level.specs.Logarithm.{number, lev}
+use Rattle.level.specs.Logarithm.{lev}
+use Rattle.level.specs.Types.{thresholds, activity, twoWords}
 use Rattle.rate.specs.Rates.{rowOf}
 use Rattle.setting.specs.declared.Setting.{Setting}
 use Rattle.setting.specs.Settings.{dOf}
 use Rattle.sample.specs.Envelope.{threshold}
-use Rattle.crossing.specs.Found.{margin}
 use Rattle.crossing.proofs.Bounds.{Crossed, Bounded, bounded}
 use Rattle.meter.specs.declared.Meter.{Meter}
 use Rattle.meter.specs.declared.Report.{Report}
 use Rattle.meter.specs.Calls.{openCall, reportCall}
+use Rattle.meter.specs.Reports.{margin}
 use Rattle.meter.proofs.Laws.{Levels, with-levels, crossing-of}
 use Rattle.meter.proofs.Outcome.{answered}
 use Rattle.meter.proofs.Possible.{passes, falling}
-use Rattle.exact.specs.Calls.{Call, Typed, samplesOf}
+use Rattle.exact.specs.Calls.{Call, Typed, broughtBy}
 use Rattle.exact.specs.Demands.{Opens, meterAfter, exactAfter, countAt, LevelBounds, Demand3}
 use Rattle.exact.specs.Exact.{E, start, startAt, takeAll, accepts, fed, exactly}
 use Rattle.exact.proofs.Calls.{Good, good-possible, good-after, good-open, same-answers, same-samples}
@@ -32,8 +32,8 @@ unfolding exactly fed
 kept-code [] e = refl
 kept-code (call ∷ calls) e = kept-code calls (fed e call) ∙ go (accepts e call)
   where
-    go : (t : Bool) → cond t (takeAll e (samplesOf call)) e .code ≡ e .code
-    go true = same-code (samplesOf call) e
+    go : (t : Bool) → cond t (takeAll e (broughtBy call)) e .code ≡ e .code
+    go true = same-code (broughtBy call) e
     go false = refl
 
 start-code : (c : Setting) → start c .code ≡ c .code
@@ -43,14 +43,14 @@ start-code c = refl
 -- ---- the levels
 
 module _ (m : Meter) (e : E) (g : Good m e) (r : Report) (L : Levels m r) where
-  cross : Crossed margin (lev (number (m .state .sums .sq))) (m .state .a) (L .j)
+  cross : Crossed margin (lev (twoWords (m .state .sums .sq))) (m .state .a) (L .j)
   cross = crossing-of m (good-possible m e g) (L .j) (L .used .crossing)
 
-  bounds : Bounded margin (number (m .state .sums .sq)) (m .state .a) (L .j) (countAt e (threshold (cross .i))) (countAt e (threshold (L .j) + rowOf (e .code) .d))
+  bounds : Bounded margin (twoWords (m .state .sums .sq)) (m .state .a) (L .j) (countAt e (threshold (cross .i))) (countAt e (threshold (L .j) + rowOf (e .code) .d))
   bounds =
       let at = L .used .crossing .place in
-      let below : cross .i < 15 = omega (arith, cross .reach) in
-      bounded margin (number (m .state .sums .sq)) (m .state .a) (L .j) _ _ (omega arith) (L .sq-pos) (omega (arith, g .tied .squares, g .few)) cross
+      let below : cross .i < thresholds = omega (arith, cross .reach) in
+      bounded margin (twoWords (m .state .sums .sq)) (m .state .a) (L .j) _ _ (omega arith) (L .sq-pos) (omega (arith, g .tied .squares, g .few)) cross
       (omega (arith, g .tied .each (cross .i) below .few, g .few)) (g .tied .each (cross .i) below .high .count) (g .tied .each (L .j) at .low .count)
 
   pub level-bounds : LevelBounds r e (rowOf (e .code) .d)
@@ -61,9 +61,9 @@ module _ (m : Meter) (e : E) (g : Good m e) (r : Report) (L : Levels m r) where
         reported = L .report .A ∙ b .reported;
         above-zero = b .above-zero;
         plus-two = subst (λ (s : ℕ). s ^ 4096 < 2 ^ (b .A + 2) * countAt e (threshold (r .levels .lower)) ^ 4096) (g .tied .power)
-            (subst (λ (i : ℕ). number (m .state .sums .sq) ^ 4096 < 2 ^ (b .A + 2) * countAt e (threshold i) ^ 4096) (sym (L .report .lower ∙ cross .lower)) (b .plus));
+            (subst (λ (i : ℕ). twoWords (m .state .sums .sq) ^ 4096 < 2 ^ (b .A + 2) * countAt e (threshold i) ^ 4096) (sym (L .report .lower ∙ cross .lower)) (b .plus));
         less-two = subst (λ (s : ℕ). 2 ^ b .A * countAt e (threshold (r .levels .upper) + rowOf (e .code) .d) ^ 4096 < 4 * s ^ 4096) (g .tied .power)
-            (subst (λ (i : ℕ). 2 ^ b .A * countAt e (threshold i + rowOf (e .code) .d) ^ 4096 < 4 * number (m .state .sums .sq) ^ 4096) (sym (L .report .upper)) (b .less));
+            (subst (λ (i : ℕ). 2 ^ b .A * countAt e (threshold i + rowOf (e .code) .d) ^ 4096 < 4 * twoWords (m .state .sums .sq) ^ 4096) (sym (L .report .upper)) (b .less));
       }
 
 -- ---- the whole
@@ -79,7 +79,7 @@ demand3 c calls z f =
       same-samples = same-samples calls (openCall c .meter) (start c) f first;
       exact-squares = exact-squares c calls;
       at-most = λ j l. g .tied .each j l .high .count;
-      at-least = λ j l. subst (λ (k : ℕ). countAt (exactAfter c calls) (threshold j + rowOf k .d) ≤ getD (meterAfter c calls .state .a) j 0) code-is (g .tied .each j l .low .count);
+      at-least = λ j l. subst (λ (k : ℕ). countAt (exactAfter c calls) (threshold j + rowOf k .d) ≤ activity (meterAfter c calls .state .a) j) code-is (g .tied .each j l .low .count);
       never-rises = falling (meterAfter c calls) (good-possible _ _ g);
       report = answered (meterAfter c calls) ok;
       levels = λ e. subst (λ (k : ℕ). LevelBounds (reportCall (meterAfter c calls) .report) (exactAfter c calls) (rowOf k .d)) code-is

@@ -13,7 +13,7 @@ pub record Near (G K m W v n : ℕ) : Type 0 where
   pub high : n * K < v * W * K + m * (G * W)
 
 -- x is at most z/W, and at most l·G/K below it
-pub record Fed (G K l W x z : ℕ) : Type 0 where
+pub record Input (G K l W x z : ℕ) : Type 0 where
   pub low : x * W ≤ z
   pub high : z * K ≤ x * W * K + l * (G * W)
 
@@ -34,10 +34,10 @@ step-high R K l W v n x z f k0 w0 h k q =
     let b = mul-le-mul-right K k in
     omega arith
 
-step-near : (G K R l W v n x z : ℕ) → R + K ≡ G → 0 < K → 0 < W → Near G K (suc l) W v n → Fed G K l W x z
+step-near : (G K R l W v n x z : ℕ) → R + K ≡ G → 0 < K → 0 < W → Near G K (suc l) W v n → Input G K l W x z
     → Near G K (suc l) (W * G) ((v * R + x * K) / G) (n * R + z * K)
 step-near G K R l W v n x z e k0 w0 =
-    subst (λ (H : ℕ). Near H K (suc l) W v n → Fed H K l W x z → Near H K (suc l) (W * H) ((v * R + x * K) / H) (n * R + z * K)) e
+    subst (λ (H : ℕ). Near H K (suc l) W v n → Input H K l W x z → Near H K (suc l) (W * H) ((v * R + x * K) / H) (n * R + z * K)) e
     (λ h k. record {
       low = step-low R K W v n x z ((v * R + x * K) / (R + K)) (h .low) (k .low) (div-mul-le-self (v * R + x * K) (R + K));
       high = step-high R K l W v n x z ((v * R + x * K) / (R + K)) k0 w0 (h .high) (k .high) (lt-div-mul-add (positive R K k0));
@@ -47,16 +47,16 @@ step-near G K R l W v n x z e k0 w0 =
     positive R K h = omega arith
 
 -- one step of smoothing
-pub near-step : (K l W v n x z : ℕ) → 0 < K → K ≤ 2 ^ 20 → 0 < W → Near (2 ^ 20) K (suc l) W v n → Fed (2 ^ 20) K l W x z
+pub near-step : (K l W v n x z : ℕ) → 0 < K → K ≤ 2 ^ 20 → 0 < W → Near (2 ^ 20) K (suc l) W v n → Input (2 ^ 20) K l W x z
     → Near (2 ^ 20) K (suc l) (W * 2 ^ 20) (smooth K v x) (n * (2 ^ 20 - K) + z * K)
 unfolding smooth
 near-step K l W v n x z k0 kG w0 h k = step-near (2 ^ 20) K (2 ^ 20 - K) l W v n x z (sub-add-cancel kG) k0 w0 h k
 
 -- an input that is exact, and one that is near
-pub fed-exact : (G K W x : ℕ) → Fed G K 0 W x (x * W)
+pub fed-exact : (G K W x : ℕ) → Input G K 0 W x (x * W)
 fed-exact G K W x = record { low = le-refl (x * W); high = omega arith }
 
-pub fed-near : {G K m W v n : ℕ} → Near G K m W v n → Fed G K m W v n
+pub fed-near : {G K m W v n : ℕ} → Near G K m W v n → Input G K m W v n
 fed-near h = record { low = h .low; high = le-of-lt (h .high) }
 
 pub near-zero : (G K m W : ℕ) → 0 < G → 0 < W → 0 < m → Near G K m W 0 0

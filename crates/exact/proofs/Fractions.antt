@@ -4,7 +4,7 @@ use mathlib.Core.Path.{_≡_, ap, _∙_}
 use Prim.Native.Nat.{ℕ, _+_, _-_, _*_, _^_}
 use native.Mathlib.Omega.{arith}
 use lib.IntN.{ℤ, natAbs}
-use Rattle.exact.specs.Exact.{E, take}
+use Rattle.exact.specs.Exact.{E, takeOne}
 use Rattle.exact.specs.Fractions.{Recurs}
 use Rattle.exact.proofs.Tied.{power-next}
 
@@ -16,7 +16,7 @@ q-same : (n R p K U G : ℕ) → (n * R + p * K) * (U * U * G) ≡ (n * R * U + 
 q-same n R p K U G = omega arith
 
 pub recurs : (e : E) (x : ℤ) → Recurs e x
-unfolding take
+unfolding takeOne
 recurs e x =
     let R = 2 ^ 20 - e .K in
     let W = (2 ^ 20) ^ (e .y) in

@@ -12,44 +12,50 @@ use lib.Dec.{leb, lit<, lit≤}
 use lib.IntN.{ℤ, natAbs}
 use lib.ListN.{getD, length}
 use lib.Pow.{pow-mono}
-use Rattle.level.specs.Logarithm.{number}
+use Rattle.level.specs.declared.Samples.{Samples}
+use Rattle.level.specs.Types.{samplesOf, thresholds, activity, twoWords}
+use Rattle.level.proofs.Words.{two-of-words}
+use Rattle.sample.specs.declared.Counting.{Counting}
 use Rattle.sample.specs.declared.State.{State}
 use Rattle.sample.specs.Activity.{counted, hung}
 use Rattle.sample.specs.Envelope.{smooth, rectified, threshold}
-use Rattle.sample.specs.Sample.{fifteen, freshState, summed, counts, hangovers, sample, samples}
+use Rattle.sample.specs.Sample.{each, freshState, summed, counts, hangovers, stateAfterOne, stateAfter}
 use Rattle.sample.proofs.Activity.{Under, under-refl, under-step, counted-le, hung-le}
 use Rattle.sample.proofs.Envelope.{smooth-le}
-use Rattle.sample.proofs.Fifteen.{fifteen-at}
-use Rattle.sample.proofs.Kept.{number-words}
+use Rattle.sample.proofs.Places.{each-at}
 use Rattle.sample.proofs.Signs.{small}
 use Rattle.signed.proofs.Sizes.{abs-sum}
-use Rattle.exact.specs.Exact.{E, startAt, reaches, countNext, hangoverNext, take, takeAll}
+use Rattle.exact.specs.Exact.{E, startAt, reaches, countNext, hangoverNext, takeOne, takeAll}
 use Rattle.rate.specs.Rates.{Ceiling}
 use Rattle.exact.specs.Calls.{AllSamples}
 use Rattle.exact.specs.Envelope.{envelopeAfter, exactEnvelopeAfter, EnvelopeBound}
 use Rattle.exact.proofs.Envelope.{Near, near-step, near-zero, near-below, fed-exact, fed-near, then-exact, then-rounded}
 
+-- what E counts by, as the meter holds it
+abbrev pub by : E → Counting
+by e = record { k = e .K; i = e .I }
+
 -- ---- what E keeps
 
 pub same-code : (xs : List ℤ) (e : E) → takeAll e xs .code ≡ e .code
-unfolding takeAll take
+unfolding takeOneAll takeOne
 same-code [] e = refl
-same-code (x ∷ xs) e = same-code xs (take e x)
+same-code (x ∷ xs) e = same-code xs (takeOne e x)
 
 pub same-K : (xs : List ℤ) (e : E) → takeAll e xs .K ≡ e .K
-unfolding takeAll take
+unfolding takeOneAll takeOne
 same-K [] e = refl
-same-K (x ∷ xs) e = same-K xs (take e x)
+same-K (x ∷ xs) e = same-K xs (takeOne e x)
 
 pub same-I : (xs : List ℤ) (e : E) → takeAll e xs .I ≡ e .I
-unfolding takeAll take
+unfolding takeOneAll takeOne
 same-I [] e = refl
-same-I (x ∷ xs) e = same-I xs (take e x)
+same-I (x ∷ xs) e = same-I xs (takeOne e x)
 
 pub total : (xs : List ℤ) (e : E) → takeAll e xs .y ≡ e .y + length xs
-unfolding takeAll take
+unfolding takeOneAll takeOne
 total [] e = omega arith
-total (x ∷ xs) e = omega (arith, total xs (take e x))
+total (x ∷ xs) e = omega (arith, total xs (takeOne e x))
 
 -- ---- the tie
 
@@ -61,24 +67,30 @@ pub record Between (D j n a h : ℕ) (e : E) : Type 0 where
   pub held : h ≤ e .I
 
 pub record Tied (D : ℕ) (m : State) (e : E) : Type 0 where
-  pub taken : m .sums .n ≡ e .y
-  pub power : number (m .sums .sq) ≡ e .sq
+  pub taken : m .sums .n .0 ≡ e .y
+  pub power : twoWords (m .sums .sq) ≡ e .sq
   pub p : Near (2 ^ 20) (e .K) 1 ((2 ^ 20) ^ (e .y)) (m .sums .p) (e .pn)
   pub q : Near (2 ^ 20) (e .K) 2 ((2 ^ 20) ^ (e .y + 1)) (m .sums .q) (e .qn)
-  pub each : (j : ℕ) → j < 15 → Between D j (m .sums .n) (getD (m .a) j 0) (getD (m .h) j 0) e
-  pub falls : (j : ℕ) → j + 1 < 15 → Under (getD (m .a) (j + 1) 0) (getD (m .h) (j + 1) 0) (getD (m .a) j 0) (getD (m .h) j 0)
-  pub sum : natAbs (m .sums .s) ≤ m .sums .n * 2 ^ 15
-  pub squares : number (m .sums .sq) ≤ m .sums .n * 2 ^ 30
+  pub each : (j : ℕ) → j < thresholds → Between D j (m .sums .n .0) (activity (m .a) j) (getD (m .h) j 0) e
+  pub falls : (j : ℕ) → j + 1 < thresholds → Under (activity (m .a) (j + 1)) (getD (m .h) (j + 1) 0) (activity (m .a) j) (getD (m .h) j 0)
+  pub sum : natAbs (m .sums .s) ≤ m .sums .n .0 * 2 ^ 15
+  pub squares : twoWords (m .sums .sq) ≤ m .sums .n .0 * 2 ^ 30
   pub p-max : m .sums .p ≤ 2 ^ 39
   pub q-max : m .sums .q ≤ 2 ^ 39
 
--- two places of two lists of fifteen
-both-at : (f g : ℕ → ℕ) (i j : ℕ) → i < 15 → j < 15 → Under (f i) (g i) (f j) (g j)
-    → Under (getD (fifteen f) i 0) (getD (fifteen g) i 0) (getD (fifteen f) j 0) (getD (fifteen g) j 0)
+-- what stands at each place of the lists of counts and hangovers
+count-at : (f : ℕ → ℕ) (j : ℕ) → j < thresholds → activity (each thresholds (λ i. samplesOf (f i))) j ≡ f j
+count-at f j l = ap (λ (n : Samples). n .0) (each-at (samplesOf 0) thresholds (λ i. samplesOf (f i)) j l)
+
+hang-at : (f : ℕ → ℕ) (j : ℕ) → j < thresholds → getD (each thresholds f) j 0 ≡ f j
+hang-at f j l = each-at 0 thresholds f j l
+
+both-at : (f g : ℕ → ℕ) (i j : ℕ) → i < thresholds → j < thresholds → Under (f i) (g i) (f j) (g j)
+    → Under (activity (each thresholds (λ k. samplesOf (f k))) i) (getD (each thresholds g) i 0) (activity (each thresholds (λ k. samplesOf (f k))) j) (getD (each thresholds g) j 0)
 both-at f g i j k l u =
     record {
-      count = omega (arith, fifteen-at f i k, fifteen-at f j l, u .count);
-      hang = omega (arith, fifteen-at g i k, fifteen-at g j l, u .hang);
+      count = omega (arith, count-at f i k, count-at f j l, u .count);
+      hang = omega (arith, hang-at g i k, hang-at g j l, u .hang);
     }
 
 more : (s n y : ℕ) → s ≤ n * 2 ^ 30 → y ≤ 2 ^ 15 * 2 ^ 15 → s + y ≤ (n + 1) * 2 ^ 30
@@ -137,15 +149,15 @@ module _ (D : ℕ) (m : State) (e : E) (x : ℤ) (k0 : 0 < e .K) (kG : e .K ≤ 
   on-lower : (j : ℕ) → leb (threshold (j + 1)) Q ≡ true → leb (threshold j) Q ≡ true
   on-lower j h = le-leb _ _ (le-trans (rises j) (leb-true _ _ h))
 
-  counter : (j : ℕ) → j < 15
-      → Between D j (m .sums .n + 1) (counted (e .I) (leb (threshold j) Q) (getD (m .a) j 0) (getD (m .h) j 0)) (hung (e .I) (leb (threshold j) Q) (getD (m .h) j 0)) (take e x)
-  unfolding take countNext hangoverNext counted hung qn pn
+  counter : (j : ℕ) → j < thresholds
+      → Between D j (m .sums .n .0 + 1) (counted (e .I) (leb (threshold j) Q) (activity (m .a) j) (getD (m .h) j 0)) (hung (e .I) (leb (threshold j) Q) (getD (m .h) j 0)) (takeOne e x)
+  unfolding takeOne countNext hangoverNext counted hung qn pn
   counter j l =
       let b = t .each j l in
       record {
         low = under-step (e .I) _ _ _ _ (reaches (e .y + 1) qn (threshold j + D)) (leb (threshold j) Q) (on-rounded j) (b .low);
         high = under-step (e .I) _ _ _ _ (leb (threshold j) Q) (reaches (e .y + 1) qn (threshold j)) (on-exact j) (b .high);
-        few = le-trans (counted-le (e .I) (leb (threshold j) Q) (getD (m .a) j 0) (getD (m .h) j 0)) (omega (arith, b .few));
+        few = le-trans (counted-le (e .I) (leb (threshold j) Q) (activity (m .a) j) (getD (m .h) j 0)) (omega (arith, b .few));
         held = hung-le (e .I) (leb (threshold j) Q) (getD (m .h) j 0) (b .held);
       }
 
@@ -153,26 +165,26 @@ module _ (D : ℕ) (m : State) (e : E) (x : ℤ) (k0 : 0 < e .K) (kG : e .K ≤ 
   unfolding P rectified
   P-max = smooth-le (e .K) (2 ^ 39) (m .sums .p) (natAbs x * 2 ^ 24) kG (t .p-max) (omega (arith, sx))
 
-  pub tied-step : Tied D (sample (e .K) (e .I) m x) (take e x)
-  unfolding sample summed counts hangovers take P Q W pn qn
+  pub tied-step : Tied D (stateAfterOne (by e) m x) (takeOne e x)
+  unfolding stateAfterOne summed counts hangovers takeOne P Q W pn qn
   tied-step =
       record {
         taken = ap (λ (i : ℕ). i + 1) (t .taken);
-        power = number-words (number (m .sums .sq) + natAbs x * natAbs x) ∙ ap (λ (s : ℕ). s + natAbs x * natAbs x) (t .power);
+        power = two-of-words (twoWords (m .sums .sq) + natAbs x * natAbs x) ∙ ap (λ (s : ℕ). s + natAbs x * natAbs x) (t .power);
         p = p-near;
         q = q-near;
-        each = λ j l. subst (λ (h : ℕ). Between D j (m .sums .n + 1) (getD (fifteen countOf) j 0) h (take e x)) (sym (fifteen-at hangs j l))
-            (subst (λ (a : ℕ). Between D j (m .sums .n + 1) a (hangs j) (take e x)) (sym (fifteen-at countOf j l)) (counter j l));
+        each = λ j l. subst (λ (h : ℕ). Between D j (m .sums .n .0 + 1) (activity (each thresholds (λ i. samplesOf (countOf i))) j) h (takeOne e x)) (sym (hang-at hangs j l))
+            (subst (λ (a : ℕ). Between D j (m .sums .n .0 + 1) a (hangs j) (takeOne e x)) (sym (count-at countOf j l)) (counter j l));
         falls = λ j l. both-at countOf hangs (j + 1) j l (omega arith)
             (under-step (e .I) _ _ _ _ (leb (threshold (j + 1)) Q) (leb (threshold j) Q) (on-lower j) (t .falls j l));
         sum = omega (arith, abs-sum (m .sums .s) x, t .sum, sx);
-        squares = le-trans (le-of-eq (number-words _)) (more (number (m .sums .sq)) (m .sums .n) (natAbs x * natAbs x) (t .squares) (mul-le-mul sx sx));
+        squares = le-trans (le-of-eq (two-of-words _)) (more (twoWords (m .sums .sq)) (m .sums .n .0) (natAbs x * natAbs x) (t .squares) (mul-le-mul sx sx));
         p-max = P-max;
         q-max = smooth-le (e .K) (2 ^ 39) (m .sums .q) P kG (t .q-max) P-max;
       }
     where
       countOf : ℕ → ℕ
-      countOf j = counted (e .I) (leb (threshold j) Q) (getD (m .a) j 0) (getD (m .h) j 0)
+      countOf j = counted (e .I) (leb (threshold j) Q) (activity (m .a) j) (getD (m .h) j 0)
 
       hangs : ℕ → ℕ
       hangs j = hung (e .I) (leb (threshold j) Q) (getD (m .h) j 0)
@@ -180,10 +192,10 @@ module _ (D : ℕ) (m : State) (e : E) (x : ℤ) (k0 : 0 < e .K) (kG : e .K ≤ 
 -- samples in order
 pub tied-samples : (D : ℕ) (xs : List ℤ) (m : State) (e : E) → 0 < e .K → e .K ≤ 2 ^ 20 → 2 ^ 21 ≤ D * e .K → AllSamples xs → Tied D m e
     → Tied D (samples (e .K) (e .I) m xs) (takeAll e xs)
-unfolding samples takeAll AllSamples take
+unfolding samples takeOneAll AllSamples takeOne
 tied-samples D [] m e k0 kG wide f t = t
 tied-samples D (x ∷ xs) m e k0 kG wide f t =
-    tied-samples D xs (sample (e .K) (e .I) m x) (take e x) k0 kG wide (f .1) (tied-step D m e x k0 kG wide (small x (f .0)) t)
+    tied-samples D xs (stateAfterOne (by e) m x) (takeOne e x) k0 kG wide (f .1) (tied-step D m e x k0 kG wide (small x (f .0)) t)
 
 -- a fresh start
 pub tied-fresh : (D code K I : ℕ) → Tied D (freshState I) (startAt code K I)
@@ -191,18 +203,18 @@ unfolding freshState startAt
 tied-fresh D code K I =
     record {
       taken = refl;
-      power = number-words 0;
+      power = two-of-words 0;
       p = near-zero (2 ^ 20) K 1 ((2 ^ 20) ^ 0) (lit< tt) (power-pos 0) (lit< tt);
       q = near-zero (2 ^ 20) K 2 ((2 ^ 20) ^ (0 + 1)) (lit< tt) (power-pos 1) (lit< tt);
       each = λ j l. record {
-        low = omega (arith, fifteen-at (λ i. 0) j l, fifteen-at (λ i. I) j l);
-        high = omega (arith, fifteen-at (λ i. 0) j l, fifteen-at (λ i. I) j l);
-        few = omega (arith, fifteen-at (λ i. 0) j l);
-        held = omega (arith, fifteen-at (λ i. I) j l);
+        low = omega (arith, count-at (λ i. 0) j l, hang-at (λ i. I) j l);
+        high = omega (arith, count-at (λ i. 0) j l, hang-at (λ i. I) j l);
+        few = omega (arith, count-at (λ i. 0) j l);
+        held = omega (arith, hang-at (λ i. I) j l);
       };
       falls = λ j l. both-at (λ i. 0) (λ i. I) (j + 1) j l (omega arith) (under-refl 0 I);
       sum = zero-le;
-      squares = le-of-eq (number-words 0);
+      squares = le-of-eq (two-of-words 0);
       p-max = zero-le;
       q-max = zero-le;
     }

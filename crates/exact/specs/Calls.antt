@@ -22,6 +22,6 @@ Typed (chunk xs ∷ calls) = AllSamples xs × Typed calls
 Typed (block b ∷ calls) = Typed calls
 
 -- the samples that a call brings
-unfoldable pub samplesOf : Call → List ℤ
-samplesOf (chunk xs) = xs
-samplesOf (block b) = samples b
+unfoldable pub broughtBy : Call → List ℤ
+broughtBy (chunk xs) = xs
+broughtBy (block b) = samples b

@@ -6,20 +6,20 @@ use mathlib.Core.Logic.{_↔_}
 use mathlib.Core.Path.{_≡_}
 use Prim.Native.Nat.{ℕ, _+_, _*_, _^_, _≤_, _<_}
 use lib.IntN.{ℤ, pos, natAbs, _+ℤ_}
-use lib.ListN.{length, getD}
+use lib.ListN.{length}
 use lib.Signed.{ltZ}
-use Rattle.level.specs.Logarithm.{number}
+use Rattle.level.specs.Types.{thresholds, activity, twoWords}
 use Rattle.refusal.specs.First.{Rule, NoneApplies, Given, Lowest}
 use Rattle.setting.specs.declared.Setting.{Setting}
-use Rattle.setting.specs.Settings.{kOf, iOf, dOf}
+use Rattle.setting.specs.Settings.{iOf, dOf}
 use Rattle.block.specs.Block.{samples as samplesIn}
 use Rattle.block.specs.Refusals.{hostRules, hostCheck}
 use Rattle.sample.specs.Envelope.{threshold}
-use Rattle.sample.specs.Sample.{freshState, samples}
+use Rattle.sample.specs.Sample.{freshState, stateAfter}
 use Rattle.meter.specs.declared.Meter.{Meter}
 use Rattle.meter.specs.declared.Report.{Report}
 use Rattle.meter.specs.Answered.{Answered}
-use Rattle.meter.specs.Calls.{HandedReport, afterSamples, openCall, chunkCall, blockCall, reportCall}
+use Rattle.meter.specs.Calls.{HandedReport, countingOf, afterSamples, openCall, chunkCall, blockCall, reportCall}
 use Rattle.meter.specs.Opened.{Fresh, Zeros}
 use Rattle.meter.specs.Refusals.{impossible, openRules, chunkRules, blockCallRules}
 use Rattle.meter.specs.Reports.{reportRules}
@@ -54,10 +54,6 @@ exactAfter c calls = exactly (start c) calls
 abbrev pub countAt : E → ℕ → ℕ
 countAt e c = e .u c
 
--- activity count a_j of a meter
-abbrev pub activity : Meter → ℕ → ℕ
-activity m j = getD (m .state .a) j 0
-
 -- the sum, and the sum of squares, of samples
 unfoldable pub sum : List ℤ → ℤ
 sum [] = pos 0
@@ -71,9 +67,9 @@ sumOfSquares (x ∷ xs) = natAbs x * natAbs x + sumOfSquares xs
 
 -- after a list of calls n, s and sq are those of the accepted ones' samples, and no call is refused with 2
 pub record NothingLost (c : Setting) (calls : List Call) : Type 0 where
-  pub total : meterAfter c calls .state .sums .n ≡ length (takenFrom c calls)
+  pub total : meterAfter c calls .state .sums .n .0 ≡ length (takenFrom c calls)
   pub sums : meterAfter c calls .state .sums .s ≡ sum (takenFrom c calls)
-  pub squares : number (meterAfter c calls .state .sums .sq) ≡ sumOfSquares (takenFrom c calls)
+  pub squares : twoWords (meterAfter c calls .state .sums .sq) ≡ sumOfSquares (takenFrom c calls)
   pub possible : impossible (meterAfter c calls) ≡ false
 
 -- the number given to a call is that of the first of its rules that applies, which is the lowest; 0 where none applies
@@ -109,7 +105,7 @@ pub record Demand2 : Type 0 where
   -- the accepted ones' samples, in order, however they were cut into calls
   pub opened : (c : Setting) → Opens c → Fresh c (openCall c .meter)
   pub measured : (c : Setting) (calls : List Call) → Opens c
-      → meterAfter c calls ≡ record { setting = c; state = samples (kOf c) (iOf c) (freshState (iOf c)) (takenFrom c calls) }
+      → meterAfter c calls ≡ record { setting = c; state = stateAfter (countingOf c) (freshState (iOf c)) (takenFrom c calls) }
   -- "crossing, levels and factor": a report on any meter that 2 lets pass is document 01's; F is never above 0
   pub reported : (m : Meter) → impossible m ≡ false → Answered m (reportCall m .number) (reportCall m .report)
   pub factor : (m : Meter) → reportCall m .number ≡ 0 → ltZ (pos 0) (reportCall m .report .levels .factor .0) ≡ false
@@ -136,10 +132,10 @@ pub record Demand3 (c : Setting) (calls : List Call) : Type 0 where
   pub same-samples : takenFrom c calls ≡ took (start c) calls
   pub exact-squares : exactAfter c calls .sq ≡ sumOfSquares (took (start c) calls)
   -- "Each activity count is at most E's count at that threshold, and at least E's count at the threshold raised by document 01's D"
-  pub at-most : (j : ℕ) → j < 15 → activity (meterAfter c calls) j ≤ countAt (exactAfter c calls) (threshold j)
-  pub at-least : (j : ℕ) → j < 15 → countAt (exactAfter c calls) (threshold j + dOf c) ≤ activity (meterAfter c calls) j
+  pub at-most : (j : ℕ) → j < thresholds → activity (meterAfter c calls .state .a) j ≤ countAt (exactAfter c calls) (threshold j)
+  pub at-least : (j : ℕ) → j < thresholds → countAt (exactAfter c calls) (threshold j + dOf c) ≤ activity (meterAfter c calls .state .a) j
   -- "No count rises with the threshold"
-  pub never-rises : (i j : ℕ) → i ≤ j → j < 15 → activity (meterAfter c calls) j ≤ activity (meterAfter c calls) i
+  pub never-rises : (i j : ℕ) → i ≤ j → j < thresholds → activity (meterAfter c calls .state .a) j ≤ activity (meterAfter c calls .state .a) i
   -- "A report on that meter is document 01's report, level or refusal"
   pub report : Answered (meterAfter c calls) (reportAfter c calls .number) (reportAfter c calls .report)
   -- "and where it gives levels", they keep to E's

@@ -3,12 +3,12 @@ use mathlib.Core.List.{List}
 use Prim.Native.Nat.{ℕ, _+_, _*_, _^_, _≤_, _<_}
 use lib.IntN.{ℤ}
 use lib.ListN.{length}
-use Rattle.sample.specs.Sample.{freshState, samples}
+use Rattle.sample.specs.Sample.{freshState, stateAfter}
 use Rattle.exact.specs.Exact.{startAt, takeAll}
 
 -- Q, and the numerator of E's q, after samples from a fresh start with any K and I
 abbrev pub envelopeAfter : (K I : ℕ) → List ℤ → ℕ
-envelopeAfter K I xs = samples K I (freshState I) xs .sums .q
+envelopeAfter K I xs = stateAfter (record { k = K; i = I }) (freshState I) xs .sums .q
 
 abbrev pub exactEnvelopeAfter : (K I : ℕ) → List ℤ → ℕ
 exactEnvelopeAfter K I xs = takeAll (startAt 0 K I) xs .qn

@@ -10,7 +10,7 @@ use Rattle.rate.specs.Rates.{rowOf}
 use Rattle.block.specs.Block.{rateCode, count, before}
 use Rattle.block.specs.Refusals.{sound}
 use Rattle.setting.specs.declared.Setting.{Setting}
-use Rattle.exact.specs.Calls.{Call, chunk, block, samplesOf}
+use Rattle.exact.specs.Calls.{Call, chunk, block, broughtBy}
 
 -- the code with its K and I, the total y, the fractions p = pn/(2^20)^y and q = qn/(2^20)^(y+1), for each threshold c in units a count u(c)
 -- and a hangover v(c), and the sum of the squares of the samples taken
@@ -47,8 +47,8 @@ hangoverNext I on v = cond on 0 (cond (ltb v I) (v + 1) v)
 
 -- after a sample x: p moves towards |x|·2^24 by K/2^20 of the way, and q as much towards the new p; numerators here, while the denominators grow
 -- with y
-unfoldable pub take : E → ℤ → E
-take e x =
+unfoldable pub takeOne : E → ℤ → E
+takeOne e x =
     let y = e .y + 1 in
     let pn = e .pn * (2 ^ 20 - e .K) + natAbs x * 2 ^ 24 * (2 ^ 20) ^ (e .y) * e .K in
     let qn = e .qn * (2 ^ 20 - e .K) + pn * e .K in
@@ -66,7 +66,7 @@ take e x =
 
 unfoldable pub takeAll : E → List ℤ → E
 takeAll e [] = e
-takeAll e (x ∷ xs) = takeAll (take e x) xs
+takeAll e (x ∷ xs) = takeAll (takeOne e x) xs
 
 -- which calls E accepts
 unfoldable pub accepts : E → Call → Bool
@@ -75,7 +75,7 @@ accepts e (block b) = sound b && eqb (rateCode b) (e .code) && eqb (before b) (e
 
 -- E after a call, which it takes or leaves
 unfoldable pub fed : E → Call → E
-fed e call = cond (accepts e call) (takeAll e (samplesOf call)) e
+fed e call = cond (accepts e call) (takeAll e (broughtBy call)) e
 
 -- E after a list of calls
 unfoldable pub exactly : E → List Call → E
@@ -90,4 +90,4 @@ answersOfE e (call ∷ calls) = accepts e call ∷ answersOfE (fed e call) calls
 -- the samples that E took, in order
 unfoldable pub took : E → List Call → List ℤ
 took e [] = []
-took e (call ∷ calls) = cond (accepts e call) (samplesOf call) [] ++ took (fed e call) calls
+took e (call ∷ calls) = cond (accepts e call) (broughtBy call) [] ++ took (fed e call) calls

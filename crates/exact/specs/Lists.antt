@@ -5,7 +5,7 @@ use lib.Dec.{eqb}
 use lib.IntN.{ℤ}
 use Rattle.meter.specs.declared.Meter.{Meter}
 use Rattle.meter.specs.Calls.{Handed, chunkCall, blockCall}
-use Rattle.exact.specs.Calls.{Call, chunk, block, samplesOf}
+use Rattle.exact.specs.Calls.{Call, chunk, block, broughtBy}
 
 -- what the meter hands back
 unfoldable pub called : Meter → Call → Handed
@@ -29,4 +29,4 @@ answers m (call ∷ calls) = accepted m call ∷ answers (called m call .meter) 
 -- the samples of those calls, in order
 unfoldable pub taken : Meter → List Call → List ℤ
 taken m [] = []
-taken m (call ∷ calls) = cond (accepted m call) (samplesOf call) [] ++ taken (called m call .meter) calls
+taken m (call ∷ calls) = cond (accepted m call) (broughtBy call) [] ++ taken (called m call .meter) calls

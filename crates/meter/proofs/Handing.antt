@@ -14,8 +14,8 @@ use Rattle.rate.specs.Rates.{rateOf, named}
 use Rattle.rate.proofs.Laws.{is-not-named, row-is}
 use Rattle.refusal.specs.First.{Rule, firstOf}
 use Rattle.meter.specs.declared.Meter.{Meter}
-use Rattle.meter.specs.Calls.{handed}
-use Rattle.meter.specs.Inner.{usableRate, Usable, Ready, refusedWith}
+use Rattle.meter.specs.Calls.{handed, countingOf}
+use Rattle.meter.specs.Inner.{usableRate, Usable, Ready, countingAt, refusedWith}
 use Rattle.meter.specs.Refusals.{impossible}
 use Rattle.setting.specs.Settings.{kOf, iOf}
 use Rattle.meter.proofs.Possible.{possible}
@@ -47,11 +47,9 @@ pub usable-as : (m : Meter) (r : Rate) (answer : Named) → named answer ≡ usa
 unfolding named
 usable-as m r answer e a = usable m r (sym e ∙ ap named a)
 
-pub ready : (m : Meter) (r : Rate) (new : ℕ) → Usable m r → new ≤ 4096 → Ready m (r .k) (r .i) new
-unfolding kOf iOf
-ready m r new u l =
-    let e = row-is (m .setting .code) r (u .rate-is) in
-    record { possible = u .possible-one; k-is = ap (λ (x : Rate). x .k) e; i-is = ap (λ (x : Rate). x .i) e; few = l }
+pub ready : (m : Meter) (r : Rate) (new : ℕ) → Usable m r → new ≤ 4096 → Ready m r new
+unfolding countingOf kOf iOf
+ready m r new u l = record { possible = u .possible-one; by-is = ap countingAt (row-is (m .setting .code) r (u .rate-is)); few = l }
 
 unusable : (m : Meter) → usableRate m ≡ none → impossible m ≡ true
 unfolding usableRate

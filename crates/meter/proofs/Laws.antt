@@ -10,26 +10,25 @@ use native.Mathlib.Omega.{arith}
 use borrow.Author.Tests.{ne-eqb, le-ltb}
 use lib.Dec.{eqb, ltb, lit≤}
 use lib.IntN.{ℤ, pos, _-ℤ_}
-use lib.ListN.{getD}
 use lib.Signed.{ltZ}
-use Rattle.level.specs.Logarithm.{number, lev, levelOf}
+use Rattle.level.specs.Logarithm.{lev, levelOf}
+use Rattle.level.specs.Types.{thresholds, activity, twoWords, words}
 use Rattle.level.proofs.Laws.{level-exists}
 use Rattle.rate.proofs.Laws.{zero-unnamed}
 use Rattle.refusal.specs.First.{NoneApplies, rising, Given, Lowest}
 use Rattle.refusal.proofs.Laws.{here, past, none, given-lowest}
 use Rattle.block.specs.Block.{samples}
 use Rattle.block.specs.Refusals.{blockRules}
-use Rattle.sample.specs.Sample.{listFrom, fifteen, words, freshState, samples as stateAfter}
-use Rattle.crossing.specs.Found.{margin}
+use Rattle.sample.specs.Sample.{mostSamples, listFrom, freshState, stateAfter}
 use Rattle.crossing.proofs.Bounds.{Crossed, crossed, factor}
 use Rattle.setting.specs.declared.Setting.{Setting}
 use Rattle.meter.specs.declared.Meter.{Meter}
 use Rattle.meter.specs.declared.Report.{Report}
-use Rattle.meter.specs.Answered.{CrossingAt, Used, ReportAt, Answered, no-samples, no-signal, no-activity, level-below, level-above, levels}
+use Rattle.meter.specs.Answered.{powerOf, CrossingAt, Used, ReportAt, Answered, no-samples, no-signal, no-activity, level-below, level-above, levels}
 use Rattle.meter.specs.Calls.{fresh, zeroMeter, afterSamples, openCall, chunkCall, blockCall, reportCall}
 use Rattle.meter.specs.Opened.{Fresh, Zeros}
-use Rattle.meter.specs.Refusals.{unnamedCode, unnamedSetting, impossible, longChunk, tooMany, openRules, chunkRules, blockCallRules}
-use Rattle.meter.specs.Reports.{reportRules}
+use Rattle.meter.specs.Refusals.{unnamedCode, anyOf, impossible, longChunk, tooMany, openRules, chunkRules, blockCallRules}
+use Rattle.meter.specs.Reports.{margin, reportRules}
 use Rattle.meter.proofs.Outcome.{answered}
 use Rattle.meter.proofs.Possible.{Possible, possible, falling}
 
@@ -78,11 +77,11 @@ unfolding openCall
 opened c z = accepted _ _ _ z
 
 pub fresh-fields : (c : Setting) → Fresh c (fresh c)
-unfolding fresh freshState words fifteen listFrom
+unfolding fresh freshState words listFrom
 fresh-fields c = record { setting = refl; n = refl; s = refl; high = refl; low = refl; P = refl; Q = refl; a = refl; h = refl }
 
 zero-fields : Zeros zeroMeter
-unfolding zeroMeter freshState words fifteen listFrom
+unfolding zeroMeter freshState words listFrom
 zero-fields = record { setting = refl; n = refl; s = refl; high = refl; low = refl; P = refl; Q = refl; a = refl; h = refl }
 
 pub refused-open : (c : Setting) → 0 < openCall c .number → Zeros (openCall c .meter)
@@ -101,14 +100,14 @@ block-samples m b n = accepted _ _ _ (block-given m b .0 .accepted .1 n)
 pub empty-chunk : (m : Meter) → impossible m ≡ false → chunkCall m [] ≡ record { number = 0; meter = m }
 unfolding chunkCall chunkRules longChunk tooMany afterSamples stateAfter
 empty-chunk m ok =
-    let few : m .state .sums .n + 0 ≤ 2 ^ 48 = omega (arith, possible m ok .n-max) in
+    let few : m .state .sums .n .0 + 0 ≤ mostSamples = omega (arith, possible m ok .n-max) in
     ap (λ (n : ℕ). record { number = n; meter = cond (eqb n 0) m m })
     (sym (past 2 (impossible m) _ ok (past 3 (ltb 4096 0) _ refl (past 11 (tooMany m 0) _ (le-ltb _ _ few) none))))
 
 -- ---- the meter of all zeros gets 2 from every call
 
 zeros-impossible : (m : Meter) → Zeros m → impossible m ≡ true
-unfolding impossible unnamedSetting unnamedCode
+unfolding impossible anyOf unnamedCode
 zeros-impossible m z = simp (z .setting, zero-unnamed)
 
 pub zeros-chunk : (m : Meter) → Zeros m → (xs : List ℤ) → chunkCall m xs .number ≡ 2
@@ -136,8 +135,8 @@ level-or-refusal (levels r j n s u a) = inl refl
 
 -- 0 is given with levels, at the crossing that is used
 pub record Levels (m : Meter) (r : Report) : Type 0 where
-  pub n-pos : 0 < m .state .sums .n
-  pub sq-pos : 0 < number (m .state .sums .sq)
+  pub n-pos : 0 < m .state .sums .n .0
+  pub sq-pos : 0 < twoWords (m .state .sums .sq)
   pub j : ℕ
   pub used : Used m j
   pub report : ReportAt m j r
@@ -151,7 +150,7 @@ with-levels (level-above r z a n d) e = absurd (omega arith)
 with-levels (levels r j n s u a) e = record { n-pos = n; sq-pos = s; j = j; used = u; report = a }
 
 -- 0, 15 and 16 are given only where something was measured
-some-measured : {m : Meter} {k : ℕ} {r : Report} → Answered m k r → (k ≡ 0) ⊎ (15 ≤ k) → (0 < m .state .sums .n) × (0 < number (m .state .sums .sq))
+some-measured : {m : Meter} {k : ℕ} {r : Report} → Answered m k r → (k ≡ 0) ⊎ (15 ≤ k) → (0 < m .state .sums .n .0) × (0 < twoWords (m .state .sums .sq))
 some-measured (no-samples r z n) (inl e) = absurd (omega arith)
 some-measured (no-samples r z n) (inr e) = absurd (omega arith)
 some-measured (no-signal r z n s) (inl e) = absurd (omega arith)
@@ -164,9 +163,9 @@ some-measured (levels r j n s u a) e = (n, s)
 
 -- the numbers whose levels a report takes, sq, n and each a_j above 0, all have one
 pub record LevelsExist (m : Meter) : Type 0 where
-  pub of-sq : levelOf (number (m .state .sums .sq)) ≡ some (pos (lev (number (m .state .sums .sq))))
-  pub of-n : levelOf (m .state .sums .n) ≡ some (pos (lev (m .state .sums .n)))
-  pub of-a : (j : ℕ) → j < 15 → 0 < getD (m .state .a) j 0 → levelOf (getD (m .state .a) j 0) ≡ some (pos (lev (getD (m .state .a) j 0)))
+  pub of-sq : levelOf (twoWords (m .state .sums .sq)) ≡ some (pos (lev (twoWords (m .state .sums .sq))))
+  pub of-n : levelOf (m .state .sums .n .0) ≡ some (pos (lev (m .state .sums .n .0)))
+  pub of-a : (j : ℕ) → j < thresholds → 0 < activity (m .state .a) j → levelOf (activity (m .state .a) j) ≡ some (pos (lev (activity (m .state .a) j)))
 
 -- so a report with levels, and one refused with 15 or 16, never meets "no level"
 pub levels-exist : (m : Meter) → impossible m ≡ false → (reportCall m .number ≡ 0) ⊎ (15 ≤ reportCall m .number) → LevelsExist m
@@ -180,9 +179,9 @@ levels-exist m ok e =
     }
 
 -- what is known of a crossing of a possible meter
-pub crossing-of : (m : Meter) → Possible m → (j : ℕ) → CrossingAt m j → Crossed margin (lev (number (m .state .sums .sq))) (m .state .a) j
+pub crossing-of : (m : Meter) → Possible m → (j : ℕ) → CrossingAt m j → Crossed margin (powerOf m) (m .state .a) j
 crossing-of m p j c =
-    crossed margin (lev (number (m .state .sums .sq))) (m .state .a) j (c .crosses)
+    crossed margin (powerOf m) (m .state .a) j (c .crosses)
     (λ h. falling m p (j - 1) j (omega arith) (c .place))
     (omega (arith, p .a-max (j - 1) (omega (arith, c .place)), p .n-max))
 
@@ -194,5 +193,5 @@ factor-never-above m ok z =
     let c = crossing-of m p (L .j) (L .used .crossing) in
     ap (ltZ (pos 0)) (L .report .F)
     ∙ ap₂ (λ (y x : ℤ). ltZ (pos 0) (y -ℤ x)) (L .report .L) (L .report .A)
-    ∙ factor margin (number (m .state .sums .sq)) (m .state .sums .n) (m .state .a) (L .j) c
+    ∙ factor margin (powerOf m) (m .state .sums .n .0) (m .state .a) (L .j) c
     (p .a-max (c .i) (omega (arith, c .reach, L .used .crossing .place))) (omega (arith, p .n-max))

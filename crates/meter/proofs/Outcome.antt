@@ -10,28 +10,28 @@ use native.Mathlib.Omega.{arith}
 use borrow.Author.Tests.{eqb-true, eqb-false, ne-eqb, lt-ltb, ltb-false}
 use lib.Dec.{T, eqb}
 use lib.IntN.{ℤ, pos, negsuc}
-use lib.ListN.{getD}
 use lib.Signed.{ltZ}
-use Rattle.level.specs.Logarithm.{number}
+use Rattle.level.specs.declared.Samples.{Samples}
+use Rattle.level.specs.Types.{thresholds, activity, twoWords, words}
 use Rattle.refusal.specs.First.{firstOf}
 use Rattle.refusal.proofs.Laws.{here, past, none as no-rule}
-use Rattle.sample.specs.Sample.{listFrom, fifteen, words}
+use Rattle.sample.specs.Sample.{listFrom}
 use Rattle.crossing.specs.Levels.{excess}
 use Rattle.crossing.specs.Crossing.{isZero, isCrossing, crossing}
-use Rattle.crossing.specs.Found.{margin, levelsAt, noLevels, crossingIn, firstExcess}
+use Rattle.crossing.specs.Searched.{levelsAt, noLevels, crossingIn, firstExcess}
 use Rattle.crossing.proofs.Searching.{found, not-found}
 use Rattle.meter.specs.declared.Meter.{Meter}
 use Rattle.meter.specs.Answered.{powerOf, CrossingAt, Used, ReportAt, AllZero, Active, Answered, no-samples, no-signal, no-activity, level-below, level-above, levels}
 use Rattle.meter.specs.Calls.{HandedReport, reportCall}
-use Rattle.meter.specs.Inner.{unreported, reportedWith}
+use Rattle.meter.specs.Inner.{refusedReport, reportedWith}
 use Rattle.meter.specs.Refusals.{impossible}
-use Rattle.meter.specs.Reports.{isNone, crossingOf, firstOfMeter, noSamples, noSignal, noActivity, levelBelow, levelAbove, reportRules, noReport, reportAt, reportFor}
+use Rattle.meter.specs.Reports.{margin, isNone, crossingOf, firstOfMeter, noSamples, noSignal, noActivity, levelBelow, levelAbove, reportRules, noReport, reportAt, reportFor}
 
 -- a refused report
-pub no-report : (k : ℕ) (m : Meter) → 0 < k → k ≡ firstOf (reportRules m) → unreported k m ≡ reportCall m
-unfolding unreported reportCall
+pub no-report : (k : ℕ) (m : Meter) → 0 < k → k ≡ firstOf (reportRules m) → refusedReport k m ≡ reportCall m
+unfolding refusedReport reportCall
 no-report k m l e =
-    subst (λ (r : ℕ). unreported k m ≡ record { number = r; meter = m; report = cond (eqb r 0) (reportFor m (crossingOf m)) noReport }) e
+    subst (λ (r : ℕ). refusedReport k m ≡ record { number = r; meter = m; report = cond (eqb r 0) (reportFor m (crossingOf m)) noReport }) e
     (sym (simp (ne-eqb k 0 (λ z. let h : 0 < 0 = subst (λ (n : ℕ). 0 < n) z l in absurd (omega arith)))))
 
 -- with a_0 above 0 and d_0 neither below nor above 0, there is a crossing at 0
@@ -40,9 +40,9 @@ signs (pos zero) p q = refl
 signs (pos (suc n)) p q = absurd (omega (arith, ltb-false 0 (suc n) q))
 signs (negsuc n) p q = absurd (subst T p tt)
 
-first-crosses : (M : ℕ) (S : ℤ) (a : List ℕ) → 0 < getD a 0 0 → isZero (excess M S a 0) ≡ true → isCrossing M S a 0 ≡ true
+first-crosses : (M S : ℤ) (a : List Samples) → 0 < activity a 0 → isZero (excess M S a 0) ≡ true → isCrossing M S a 0 ≡ true
 unfolding isCrossing
-first-crosses M S a p z = simp (lt-ltb 0 (getD a 0 0) p, z)
+first-crosses M S a p z = simp (lt-ltb 0 (activity a 0) p, z)
 
 -- ---- the number and the report, where the tests before have passed
 
@@ -54,15 +54,15 @@ pub record Tested (m : Meter) : Type 0 where
   pub a-some : noActivity m ≡ false
 
 module _ (m : Meter) (ok : impossible m ≡ false) where
-  pub at-12 : noSamples m ≡ true → unreported 12 m ≡ reportCall m
+  pub at-12 : noSamples m ≡ true → refusedReport 12 m ≡ reportCall m
   unfolding reportRules
   at-12 e = no-report 12 m (omega arith) (past 2 (impossible m) _ ok (here 12 (noSamples m) _ e))
 
-  pub at-13 : noSamples m ≡ false → noSignal m ≡ true → unreported 13 m ≡ reportCall m
+  pub at-13 : noSamples m ≡ false → noSignal m ≡ true → refusedReport 13 m ≡ reportCall m
   unfolding reportRules
   at-13 n e = no-report 13 m (omega arith) (past 2 (impossible m) _ ok (past 12 (noSamples m) _ n (here 13 (noSignal m) _ e)))
 
-  pub at-14 : noSamples m ≡ false → noSignal m ≡ false → noActivity m ≡ true → unreported 14 m ≡ reportCall m
+  pub at-14 : noSamples m ≡ false → noSignal m ≡ false → noActivity m ≡ true → refusedReport 14 m ≡ reportCall m
   unfolding reportRules
   at-14 n s e =
       no-report 14 m (omega arith)
@@ -88,9 +88,9 @@ module _ (m : Meter) (t : Tested m) where
   nowhere : crossingOf m ≡ none → (j : ℕ) → CrossingAt m j → ⊥
   unfolding crossingOf crossingIn crossing
   nowhere e j c =
-      absurd (subst T (sym (c .crosses) ∙ not-found (isCrossing margin (powerOf m) (m .state .a)) 0 15 e j (omega arith) (omega (arith, c .place))) tt)
+      absurd (subst T (sym (c .crosses) ∙ not-found (isCrossing margin (powerOf m) (m .state .a)) 0 thresholds e j (omega arith) (omega (arith, c .place))) tt)
 
-  a-above : 0 < getD (m .state .a) 0 0
+  a-above : 0 < activity (m .state .a) 0
   unfolding noActivity
   a-above = pos-of-ne-zero (eqb-false _ 0 (t .a-some))
 
@@ -102,14 +102,14 @@ module _ (m : Meter) (t : Tested m) where
       go true p = refl
       go false p = absurd (nowhere e 0 (record { place = omega arith; crosses = first-crosses margin (powerOf m) (m .state .a) a-above (signs (firstOfMeter m) b p) }))
 
-  pub at-15 : crossingOf m ≡ none → ltZ (firstOfMeter m) (pos 0) ≡ true → unreported 15 m ≡ reportCall m
+  pub at-15 : crossingOf m ≡ none → ltZ (firstOfMeter m) (pos 0) ≡ true → refusedReport 15 m ≡ reportCall m
   at-15 e b = no-report 15 m (omega arith) (four 15 (here 15 (levelBelow m) _ (below-is none e ∙ b)))
 
-  pub at-16 : crossingOf m ≡ none → ltZ (firstOfMeter m) (pos 0) ≡ false → unreported 16 m ≡ reportCall m
+  pub at-16 : crossingOf m ≡ none → ltZ (firstOfMeter m) (pos 0) ≡ false → refusedReport 16 m ≡ reportCall m
   at-16 e b =
       no-report 16 m (omega arith) (four 16 (past 15 (levelBelow m) _ (below-is none e ∙ b) (here 16 (levelAbove m) _ (above-is none e ∙ above-zero e b))))
 
-  pub at-0 : (j : ℕ) → crossingOf m ≡ some j → reportedWith (levelsAt (m .state .sums .n) (number (m .state .sums .sq)) (m .state .a) j) m ≡ reportCall m
+  pub at-0 : (j : ℕ) → crossingOf m ≡ some j → reportedWith (levelsAt margin (m .state .sums .n .0) (twoWords (m .state .sums .sq)) (m .state .a) j) m ≡ reportCall m
   unfolding reportedWith reportCall reportFor reportAt
   at-0 j e =
       ap (λ (r : ℕ). record { number = r; meter = m; report = cond (eqb r 0) (reportAt m j) noReport })
@@ -119,7 +119,7 @@ module _ (m : Meter) (t : Tested m) where
   used : (j : ℕ) → crossingOf m ≡ some j → Used m j
   unfolding crossingOf crossingIn crossing
   used j e =
-      let f = found (isCrossing margin (powerOf m) (m .state .a)) 0 15 j e in
+      let f = found (isCrossing margin (powerOf m) (m .state .a)) 0 thresholds j e in
       record {
         crossing = record { place = f .to; crosses = f .holds };
         none-lower = λ i l c. absurd (subst T (sym (c .crosses) ∙ f .none-lower i (omega arith) l) tt);
@@ -128,7 +128,7 @@ module _ (m : Meter) (t : Tested m) where
 -- ---- document 01's report
 
 zero-report : AllZero noReport
-unfolding noReport noLevels words fifteen listFrom
+unfolding noReport noLevels words listFrom
 zero-report =
     record { n = refl; s = refl; high = refl; low = refl; a = refl; L = refl; A = refl; C = refl; F = refl; lower = refl; upper = refl }
 
@@ -141,7 +141,7 @@ abbrev Reads : Meter → HandedReport → Type 0
 Reads m r = Answered m (r .number) (r .report)
 
 pub answered : (m : Meter) → impossible m ≡ false → Answered m (reportCall m .number) (reportCall m .report)
-unfolding unreported reportedWith noSamples noSignal noActivity firstOfMeter firstExcess reportAt
+unfolding refusedReport reportedWith noSamples noSignal noActivity firstOfMeter firstExcess reportAt
 answered m ok = by-n (noSamples m) refl
   where
     above : (n : ℕ) → eqb n 0 ≡ false → 0 < n

@@ -1,110 +1,94 @@
 -- A meter that refusal 2 lets pass, and what is then known of it: the two are the same.
-use mathlib.Core.Bool.{true, false, not}
-use mathlib.Core.Path.{_≡_, sym, ap, subst}
-use Prim.Native.Nat.{ℕ, zero, suc, _+_, _-_, _*_, _^_, _≤_, _<_}
+use mathlib.Core.Bool.{Bool, true, false, not, _&&_, and-false}
+use mathlib.Core.List.{List, [], _∷_}
+use mathlib.Core.Path.{_≡_, refl, sym, ap, _∙_, subst}
+use Prim.Native.Nat.{ℕ, zero, suc, _+_, _-_, _*_, _≤_, _<_}
 use native.Mathlib.Nat.{le-of-eq, le-trans, add-zero}
 use native.Mathlib.Omega.{arith}
-use borrow.Author.Tests.{le-ltb, ltb-false, not-false}
+use borrow.Author.Tests.{lt-ltb, le-ltb, ltb-false, not-false}
+use lib.Dec.{ltb}
 use lib.IntN.{natAbs}
 use lib.ListN.{getD}
-use Rattle.level.specs.Logarithm.{number}
+use Rattle.level.specs.Types.{thresholds, activity, twoWords}
 use Rattle.rate.specs.Rates.{isNamed}
-use Rattle.meter.specs.declared.Meter.{Meter}
+use Rattle.sample.specs.Sample.{mostSamples}
 use Rattle.setting.specs.Settings.{iOf}
-use Rattle.meter.proofs.Below.{none-below, each-below, neither}
-use Rattle.meter.specs.Refusals.{unnamedCode, unnamedSetting, manySamples, largeSum, largeSquares, largeEnvelope, longHangover, largeCount, risingCounts, fallingHangovers, impossible}
+use Rattle.meter.specs.declared.Meter.{Meter}
+use Rattle.meter.specs.Refusals.{sumBound, squareBound, envelopeBound, unnamedCode, manySamples, largeSum, largeSquares, largeP, largeQ, impossibleSums, longHangover, largeCount, risingCount, fallingHangover, impossibleCounter, impossible}
+use Rattle.meter.proofs.Below.{NoneOf, none-of, of-none, none-below, each-below}
 
 pub record Possible (m : Meter) : Type 0 where
   pub named : isNamed (m .setting .code) ≡ true
-  pub n-max : m .state .sums .n ≤ 2 ^ 48
-  pub s-max : natAbs (m .state .sums .s) ≤ m .state .sums .n * 2 ^ 15
-  pub sq-max : number (m .state .sums .sq) ≤ m .state .sums .n * 2 ^ 30
-  pub p-max : m .state .sums .p ≤ 2 ^ 39
-  pub q-max : m .state .sums .q ≤ 2 ^ 39
-  pub h-max : (j : ℕ) → j < 15 → getD (m .state .h) j 0 ≤ iOf (m .setting)
-  pub a-max : (j : ℕ) → j < 15 → getD (m .state .a) j 0 ≤ m .state .sums .n
-  pub a-falls : (j : ℕ) → j < 14 → getD (m .state .a) (j + 1) 0 ≤ getD (m .state .a) j 0
-  pub h-rises : (j : ℕ) → j < 14 → getD (m .state .h) j 0 ≤ getD (m .state .h) (j + 1) 0
+  pub n-max : m .state .sums .n .0 ≤ mostSamples
+  pub s-max : natAbs (m .state .sums .s) ≤ m .state .sums .n .0 * sumBound
+  pub sq-max : twoWords (m .state .sums .sq) ≤ m .state .sums .n .0 * squareBound
+  pub p-max : m .state .sums .p ≤ envelopeBound
+  pub q-max : m .state .sums .q ≤ envelopeBound
+  pub h-max : (j : ℕ) → j < thresholds → getD (m .state .h) j 0 ≤ iOf (m .setting)
+  pub a-max : (j : ℕ) → j < thresholds → activity (m .state .a) j ≤ m .state .sums .n .0
+  pub a-falls : (j : ℕ) → j + 1 < thresholds → activity (m .state .a) (j + 1) ≤ activity (m .state .a) j
+  pub h-rises : (j : ℕ) → j + 1 < thresholds → getD (m .state .h) j 0 ≤ getD (m .state .h) (j + 1) 0
 
--- ---- from the facts to the tests
+-- ---- two neighbours, where there are two
 
-module _ (m : Meter) (p : Possible m) where
-  setting-ok : unnamedSetting m ≡ false
-  unfolding unnamedSetting unnamedCode
-  setting-ok = ap not (p .named)
+ordered : (j x y : ℕ) → (j + 1 < thresholds → y ≤ x) → ltb (j + 1) thresholds && ltb x y ≡ false
+ordered j x y h = go (ltb (j + 1) thresholds) refl
+  where
+    go : (t : Bool) → ltb (j + 1) thresholds ≡ t → t && ltb x y ≡ false
+    go true e = le-ltb x y (h (borrow.Author.Tests.ltb-true (j + 1) thresholds e))
+    go false e = refl
 
-  n-ok : manySamples m ≡ false
-  unfolding manySamples
-  n-ok = le-ltb _ _ (p .n-max)
+in-order : (j x y : ℕ) → ltb (j + 1) thresholds && ltb x y ≡ false → j + 1 < thresholds → y ≤ x
+in-order j x y e l = ltb-false x y (sym (ap (λ (b : Bool). b && ltb x y) (lt-ltb (j + 1) thresholds l)) ∙ e)
 
-  s-ok : largeSum m ≡ false
-  unfolding largeSum
-  s-ok = le-ltb _ _ (p .s-max)
+-- ---- from the facts to the tests, and back
 
-  sq-ok : largeSquares m ≡ false
-  unfolding largeSquares
-  sq-ok = le-ltb _ _ (p .sq-max)
+counter : Meter → ℕ → List Bool
+counter m j = longHangover (iOf (m .setting)) (m .state) j ∷ largeCount (m .state) j ∷ risingCount (m .state) j ∷ fallingHangover (m .state) j ∷ []
 
-  envelope-ok : largeEnvelope m ≡ false
-  unfolding largeEnvelope
-  envelope-ok = simp (le-ltb _ _ (p .p-max), le-ltb _ _ (p .q-max))
-
-  h-ok : longHangover m ≡ false
-  unfolding longHangover
-  h-ok = none-below 15 _ (λ j l. le-ltb _ _ (p .h-max j l))
-
-  a-ok : largeCount m ≡ false
-  unfolding largeCount
-  a-ok = none-below 15 _ (λ j l. le-ltb _ _ (p .a-max j l))
-
-  falls-ok : risingCounts m ≡ false
-  unfolding risingCounts
-  falls-ok = none-below 14 _ (λ j l. le-ltb _ _ (p .a-falls j l))
-
-  rises-ok : fallingHangovers m ≡ false
-  unfolding fallingHangovers
-  rises-ok = none-below 14 _ (λ j l. le-ltb _ _ (p .h-rises j l))
-
-  pub passes : impossible m ≡ false
-  unfolding impossible
-  passes = simp (setting-ok, n-ok, s-ok, sq-ok, envelope-ok, h-ok, a-ok, falls-ok, rises-ok)
-
--- ---- and from the tests to the facts
+pub passes : (m : Meter) → Possible m → impossible m ≡ false
+unfolding impossible unnamedCode impossibleSums manySamples largeSum largeSquares largeP largeQ impossibleCounter longHangover largeCount risingCount fallingHangover NoneOf
+passes m p =
+    of-none _ (
+      ap not (p .named),
+      (
+        of-none _ (le-ltb _ _ (p .n-max), (le-ltb _ _ (p .s-max), (le-ltb _ _ (p .sq-max), (le-ltb _ _ (p .p-max), (le-ltb _ _ (p .q-max), tt))))),
+        (
+          none-below thresholds _ (λ j l.
+          of-none _ (le-ltb _ _ (p .h-max j l), (le-ltb _ _ (p .a-max j l), (ordered j _ _ (p .a-falls j), (ordered j _ _ (p .h-rises j), tt))))),
+          tt,
+        ),
+      ),
+    )
 
 pub possible : (m : Meter) → impossible m ≡ false → Possible m
-unfolding impossible unnamedSetting unnamedCode manySamples largeSum largeSquares largeEnvelope longHangover largeCount risingCounts fallingHangovers
+unfolding impossible unnamedCode impossibleSums manySamples largeSum largeSquares largeP largeQ impossibleCounter longHangover largeCount risingCount fallingHangover NoneOf counter
 possible m h =
-    let h8 = neither _ _ h in
-    let h7 = neither _ _ (h8 .0) in
-    let h6 = neither _ _ (h7 .0) in
-    let h5 = neither _ _ (h6 .0) in
-    let h4 = neither _ _ (h5 .0) in
-    let h3 = neither _ _ (h4 .0) in
-    let h2 = neither _ _ (h3 .0) in
-    let h1 = neither _ _ (h2 .0) in
-    let e = neither _ _ (h4 .1) in
+    let n = none-of _ h in
+    let s = none-of _ (n .1 .0) in
+    let c : (j : ℕ) → j < thresholds → NoneOf (counter m j) = λ j l. none-of _ (each-below thresholds _ (n .1 .1 .0) j l) in
     record {
-      named = not-false _ (h1 .0);
-      n-max = ltb-false _ _ (h1 .1);
-      s-max = ltb-false _ _ (h2 .1);
-      sq-max = ltb-false _ _ (h3 .1);
-      p-max = ltb-false _ _ (e .0);
-      q-max = ltb-false _ _ (e .1);
-      h-max = λ j l. ltb-false _ _ (each-below 15 _ (h5 .1) j l);
-      a-max = λ j l. ltb-false _ _ (each-below 15 _ (h6 .1) j l);
-      a-falls = λ j l. ltb-false _ _ (each-below 14 _ (h7 .1) j l);
-      h-rises = λ j l. ltb-false _ _ (each-below 14 _ (h8 .1) j l);
+      named = not-false _ (n .0);
+      n-max = ltb-false _ _ (s .0);
+      s-max = ltb-false _ _ (s .1 .0);
+      sq-max = ltb-false _ _ (s .1 .1 .0);
+      p-max = ltb-false _ _ (s .1 .1 .1 .0);
+      q-max = ltb-false _ _ (s .1 .1 .1 .1 .0);
+      h-max = λ j l. ltb-false _ _ (c j l .0);
+      a-max = λ j l. ltb-false _ _ (c j l .1 .0);
+      a-falls = λ j l. in-order j _ _ (c j (omega arith) .1 .1 .0) l;
+      h-rises = λ j l. in-order j _ _ (c j (omega arith) .1 .1 .1 .0) l;
     }
 
 -- ---- counts that fall from each place to the next fall over any number of places
 
-fall : (f : ℕ → ℕ) (n : ℕ) → ((j : ℕ) → j < n → f (j + 1) ≤ f j) → (i k : ℕ) → i + k ≤ n → f (i + k) ≤ f i
+fall : (f : ℕ → ℕ) (n : ℕ) → ((j : ℕ) → j + 1 < n → f (j + 1) ≤ f j) → (i k : ℕ) → i + k < n → f (i + k) ≤ f i
 fall f n h i zero l = le-of-eq (ap f (add-zero i))
 fall f n h i (suc k) l =
     let s : i + suc k ≡ i + k + 1 = omega arith in
     subst (λ (x : ℕ). f x ≤ f i) (sym s) (le-trans (h (i + k) (omega arith)) (fall f n h i k (omega arith)))
 
-pub falling : (m : Meter) → Possible m → (i j : ℕ) → i ≤ j → j < 15 → getD (m .state .a) j 0 ≤ getD (m .state .a) i 0
+pub falling : (m : Meter) → Possible m → (i j : ℕ) → i ≤ j → j < thresholds → activity (m .state .a) j ≤ activity (m .state .a) i
 falling m p i j h l =
     let s : i + (j - i) ≡ j = omega arith in
-    subst (λ (x : ℕ). getD (m .state .a) x 0 ≤ getD (m .state .a) i 0) s (fall (λ x. getD (m .state .a) x 0) 14 (p .a-falls) i (j - i) (omega arith))
+    subst (λ (x : ℕ). activity (m .state .a) x ≤ activity (m .state .a) i) s (fall (λ x. activity (m .state .a) x) thresholds (p .a-falls) i (j - i) (omega arith))

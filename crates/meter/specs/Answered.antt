@@ -1,30 +1,29 @@
 -- Document 01's report on a meter, as a relation between the meter and what is answered: "The report" and "Why a call is refused". It says what is
 -- reported, and nothing of how a crossing is searched for.
 use mathlib.Core.Bool.{true}
-use mathlib.Core.List.{map}
 use mathlib.Core.Path.{_≡_}
 use Prim.Native.Nat.{ℕ, _<_}
 use lib.IntN.{ℤ, pos, _-ℤ_}
-use lib.ListN.{getD, replicate}
+use lib.ListN.{replicate}
 use lib.Signed.{ltZ}
-use Rattle.level.specs.Logarithm.{number, lev}
+use Rattle.level.specs.Logarithm.{lev}
+use Rattle.level.specs.Types.{samplesOf, thresholds, activity, twoWords}
 use Rattle.crossing.specs.Levels.{longTerm, excess}
 use Rattle.crossing.specs.Crossing.{isCrossing, lowerOf, upperOf, activeLevel}
-use Rattle.crossing.specs.Found.{margin}
 use Rattle.meter.specs.declared.Meter.{Meter}
 use Rattle.meter.specs.declared.Report.{Report}
-use Rattle.meter.specs.Reports.{samplesOf}
+use Rattle.meter.specs.Reports.{margin}
 
 -- lev(sq), and d_0
 abbrev pub powerOf : Meter → ℤ
-powerOf m = pos (lev (number (m .state .sums .sq)))
+powerOf m = pos (lev (twoWords (m .state .sums .sq)))
 
 abbrev pub lowestExcess : Meter → ℤ
 lowestExcess m = excess margin (powerOf m) (m .state .a) 0
 
 -- there is a crossing at j
 pub record CrossingAt (m : Meter) (j : ℕ) : Type 0 where
-  pub place : j < 15
+  pub place : j < thresholds
   pub crosses : isCrossing margin (powerOf m) (m .state .a) j ≡ true
 
 -- the crossing that is used: there is none at a lower place
@@ -34,13 +33,13 @@ pub record Used (m : Meter) (j : ℕ) : Type 0 where
 
 -- the report at a crossing j, field by field
 pub record ReportAt (m : Meter) (j : ℕ) (r : Report) : Type 0 where
-  pub n : r .n .0 ≡ m .state .sums .n
+  pub n : r .n .0 ≡ m .state .sums .n .0
   pub s : r .s ≡ m .state .sums .s
-  pub sq : number (r .sq) ≡ number (m .state .sums .sq)
-  pub a : r .a ≡ map samplesOf (m .state .a)
-  pub L : r .levels .level .0 ≡ longTerm (powerOf m) (m .state .sums .n)
+  pub sq : twoWords (r .sq) ≡ twoWords (m .state .sums .sq)
+  pub a : r .a ≡ m .state .a
+  pub L : r .levels .level .0 ≡ longTerm (powerOf m) (m .state .sums .n .0)
   pub A : r .levels .active .0 ≡ activeLevel margin (powerOf m) (m .state .a) j
-  pub C : r .levels .threshold .0 ≡ r .levels .active .0 -ℤ pos margin
+  pub C : r .levels .threshold .0 ≡ r .levels .active .0 -ℤ margin
   pub F : r .levels .factor .0 ≡ r .levels .level .0 -ℤ r .levels .active .0
   pub lower : r .levels .lower ≡ lowerOf margin (powerOf m) (m .state .a) j
   pub upper : r .levels .upper ≡ upperOf j
@@ -51,7 +50,7 @@ pub record AllZero (r : Report) : Type 0 where
   pub s : r .s ≡ pos 0
   pub high : r .sq .high ≡ 0
   pub low : r .sq .low ≡ 0
-  pub a : r .a ≡ replicate 15 (samplesOf 0)
+  pub a : r .a ≡ replicate thresholds (samplesOf 0)
   pub L : r .levels .level .0 ≡ pos 0
   pub A : r .levels .active .0 ≡ pos 0
   pub C : r .levels .threshold .0 ≡ pos 0
@@ -61,21 +60,21 @@ pub record AllZero (r : Report) : Type 0 where
 
 -- something was measured: n, sq and a_0 are above 0
 pub record Active (m : Meter) : Type 0 where
-  pub n : 0 < m .state .sums .n
-  pub sq : 0 < number (m .state .sums .sq)
-  pub a : 0 < getD (m .state .a) 0 0
+  pub n : 0 < m .state .sums .n .0
+  pub sq : 0 < twoWords (m .state .sums .sq)
+  pub a : 0 < activity (m .state .a) 0
 
 -- the number and the report that are document 01's answer to a report call on a meter, where 2 does not apply
 pub data Answered (m : Meter) : ℕ → Report → Type 0 where
   -- 12: n = 0
-  no-samples : (r : Report) → AllZero r → m .state .sums .n ≡ 0 → Answered m 12 r
+  no-samples : (r : Report) → AllZero r → m .state .sums .n .0 ≡ 0 → Answered m 12 r
   -- 13: sq = 0
-  no-signal : (r : Report) → AllZero r → 0 < m .state .sums .n → number (m .state .sums .sq) ≡ 0 → Answered m 13 r
+  no-signal : (r : Report) → AllZero r → 0 < m .state .sums .n .0 → twoWords (m .state .sums .sq) ≡ 0 → Answered m 13 r
   -- 14: a_0 = 0
-  no-activity : (r : Report) → AllZero r → 0 < m .state .sums .n → 0 < number (m .state .sums .sq) → getD (m .state .a) 0 0 ≡ 0 → Answered m 14 r
+  no-activity : (r : Report) → AllZero r → 0 < m .state .sums .n .0 → 0 < twoWords (m .state .sums .sq) → activity (m .state .a) 0 ≡ 0 → Answered m 14 r
   -- 15: no crossing and d_0 < 0
   level-below : (r : Report) → AllZero r → Active m → ((j : ℕ) → CrossingAt m j → ⊥) → ltZ (lowestExcess m) (pos 0) ≡ true → Answered m 15 r
   -- 16: no crossing and d_0 > 0
   level-above : (r : Report) → AllZero r → Active m → ((j : ℕ) → CrossingAt m j → ⊥) → ltZ (pos 0) (lowestExcess m) ≡ true → Answered m 16 r
   -- levels, at the crossing that is used
-  levels : (r : Report) (j : ℕ) → 0 < m .state .sums .n → 0 < number (m .state .sums .sq) → Used m j → ReportAt m j r → Answered m 0 r
+  levels : (r : Report) (j : ℕ) → 0 < m .state .sums .n .0 → 0 < twoWords (m .state .sums .sq) → Used m j → ReportAt m j r → Answered m 0 r

@@ -10,7 +10,8 @@ use Rattle.refusal.specs.Number.{numberGiven}
 use Rattle.meter.specs.declared.Fed.{Fed}
 use Rattle.meter.specs.declared.Meter.{Meter}
 use Rattle.setting.specs.declared.Setting.{Setting}
-use Rattle.sample.specs.Sample.{freshState, samples}
+use Rattle.sample.specs.declared.Counting.{Counting}
+use Rattle.sample.specs.Sample.{freshState, stateAfter}
 use Rattle.setting.specs.Settings.{kOf, iOf}
 use Rattle.meter.specs.declared.Report.{Report}
 use Rattle.meter.specs.declared.Reported.{Reported}
@@ -43,9 +44,13 @@ fresh c = record { setting = c; state = freshState (iOf c) }
 unfoldable pub zeroMeter : Meter
 zeroMeter = record { setting = record { code = 0 }; state = freshState 0 }
 
+-- what counting goes by: the rate's K and I
+unfoldable pub countingOf : Setting → Counting
+countingOf c = record { k = kOf c; i = iOf c }
+
 -- the meter after samples in order
 unfoldable pub afterSamples : Meter → List ℤ → Meter
-afterSamples m xs = record { setting = m .setting; state = samples (kOf (m .setting)) (iOf (m .setting)) (m .state) xs }
+afterSamples m xs = record { setting = m .setting; state = stateAfter (countingOf (m .setting)) (m .state) xs }
 
 -- a call that is accepted where the number is 0 hands back the first meter, else the second
 abbrev pub handed : ℕ → Meter → Meter → Handed

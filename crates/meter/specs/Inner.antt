@@ -1,43 +1,33 @@
 -- What the functions inside this crate promise one another. Nothing here is part of what a meter promises.
-use mathlib.Core.Bool.{Bool, false, cond, _||_}
-use mathlib.Core.List.{List, [], _∷_, map}
+use mathlib.Core.Bool.{Bool, false, true, cond, _||_, _&&_}
+use mathlib.Core.List.{List, [], _∷_}
 use mathlib.Core.Option.{Option, none, some}
 use mathlib.Core.Path.{_≡_}
-use Prim.Native.Nat.{ℕ, _+_, _*_, _^_, _≤_}
-use lib.Dec.{ltb}
-use lib.IntN.{ℤ, natAbs}
-use lib.ListN.{length, getD}
+use Prim.Native.Nat.{ℕ, _+_, _≤_, _<_}
+use lib.IntN.{ℤ}
+use lib.ListN.{length}
+use Rattle.block.specs.Refusals.{sound, samplesPart}
 use Rattle.crossing.specs.declared.Levels.{Levels}
-use Rattle.level.specs.Logarithm.{number}
+use Rattle.level.specs.Types.{thresholds}
 use Rattle.rate.specs.declared.Rate.{Rate}
 use Rattle.rate.specs.Rates.{rateOf}
-use Rattle.sample.specs.declared.State.{State}
-use Rattle.sample.specs.declared.Sums.{Sums}
-use Rattle.meter.specs.declared.Meter.{Meter}
-use Rattle.meter.specs.Refusals.{someBelow, impossible, tooMany}
-use Rattle.meter.specs.Calls.{Handed, HandedReport, handed, afterSamples}
-use Rattle.meter.specs.Reports.{samplesOf, noReport}
-use Rattle.setting.specs.Settings.{kOf, iOf}
-use Rattle.setting.specs.declared.Setting.{Setting}
 use Rattle.refusal.specs.First.{firstOf}
+use Rattle.sample.specs.declared.Counting.{Counting}
 use Rattle.sample.specs.Sample.{freshState}
+use Rattle.setting.specs.declared.Setting.{Setting}
+use Rattle.meter.specs.declared.Meter.{Meter}
+use Rattle.meter.specs.Calls.{Handed, HandedReport, handed, countingOf, afterSamples}
+use Rattle.meter.specs.Refusals.{impossible, tooMany}
+use Rattle.meter.specs.Reports.{noReport}
 
 -- the rate of a meter that refusal 2 lets pass
 unfoldable pub usableRate : Meter → Option Rate
 usableRate m = cond (impossible m) none (rateOf (m .setting .code))
 
--- the conditions of refusal 2 on the sums
-unfoldable pub largeSums : Sums → Bool
-largeSums m =
-    ltb (2 ^ 48) (m .n) || (ltb (m .n * 2 ^ 15) (natAbs (m .s)) || (ltb (m .n * 2 ^ 30) (number (m .sq)) || (ltb (2 ^ 39) (m .p) || ltb (2 ^ 39) (m .q))))
-
--- and on the counters
-unfoldable pub wrongCounters : (I : ℕ) → State → Bool
-wrongCounters I m =
-    someBelow 15 (λ j. ltb I (getD (m .h) j 0))
-    || (someBelow 15 (λ j. ltb (m .sums .n) (getD (m .a) j 0))
-    || (someBelow 14 (λ j. ltb (getD (m .a) (j + 0) 0) (getD (m .a) (j + 1) 0))
-    || someBelow 14 (λ j. ltb (getD (m .h) (j + 1) 0) (getD (m .h) (j + 0) 0))))
+-- the place after j; after the last, the last
+pub record NextPlace (j r : ℕ) : Type 0 where
+  pub next : j + 1 < thresholds → r ≡ j + 1
+  pub last : thresholds ≤ j + 1 → r ≡ j
 
 -- the meter that has taken no sample, with any I
 unfoldable pub freshAt : Setting → (I : ℕ) → Meter
@@ -48,11 +38,20 @@ pub record Usable (m : Meter) (r : Rate) : Type 0 where
   pub possible-one : impossible m ≡ false
   pub rate-is : rateOf (m .setting .code) ≡ some r
 
--- a meter, with its K and I, that new samples may be given to
-pub record Ready (m : Meter) (K I new : ℕ) : Type 0 where
+-- such a meter, and a sound block with its part
+pub record Followed (m : Meter) (r : Rate) (b part : List ℕ) : Type 0 where
+  pub usable : Usable m r
+  pub fits : sound b ≡ true
+  pub part-is : part ≡ samplesPart b
+
+-- what counting goes by at a rate
+abbrev pub countingAt : Rate → Counting
+countingAt r = record { k = r .k; i = r .i }
+
+-- a meter, with its rate, that new samples may be given to
+pub record Ready (m : Meter) (r : Rate) (new : ℕ) : Type 0 where
   pub possible : impossible m ≡ false
-  pub k-is : kOf (m .setting) ≡ K
-  pub i-is : iOf (m .setting) ≡ I
+  pub by-is : countingOf (m .setting) ≡ countingAt r
   pub few : new ≤ 4096
 
 -- what a call hands back, refused with a number
@@ -64,11 +63,11 @@ unfoldable pub takenBy : Meter → List ℤ → Handed
 takenBy m xs = handed (firstOf ((11, tooMany m (length xs)) ∷ [])) (afterSamples m xs) m
 
 -- a refused report
-unfoldable pub unreported : ℕ → Meter → HandedReport
-unreported k m = record { number = k; meter = m; report = noReport }
+unfoldable pub refusedReport : ℕ → Meter → HandedReport
+refusedReport k m = record { number = k; meter = m; report = noReport }
 
 -- a report with levels
 unfoldable pub reportedWith : Levels → Meter → HandedReport
 reportedWith l m =
     let sums = m .state .sums in
-    record { number = 0; meter = m; report = record { n = samplesOf (sums .n); s = sums .s; sq = sums .sq; a = map samplesOf (m .state .a); levels = l } }
+    record { number = 0; meter = m; report = record { n = sums .n; s = sums .s; sq = sums .sq; a = m .state .a; levels = l } }

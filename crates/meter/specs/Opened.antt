@@ -3,6 +3,7 @@ use mathlib.Core.Path.{_≡_}
 use Prim.Native.Nat.{ℕ}
 use lib.IntN.{pos}
 use lib.ListN.{replicate}
+use Rattle.level.specs.Types.{samplesOf, thresholds}
 use Rattle.setting.specs.declared.Setting.{Setting}
 use Rattle.setting.specs.Settings.{iOf}
 use Rattle.meter.specs.declared.Meter.{Meter}
@@ -10,14 +11,14 @@ use Rattle.meter.specs.declared.Meter.{Meter}
 -- a meter of a setting that has taken no sample: each h_j is I, all else zero
 pub record Untouched (c : Setting) (I : ℕ) (m : Meter) : Type 0 where
   pub setting : m .setting ≡ c
-  pub n : m .state .sums .n ≡ 0
+  pub n : m .state .sums .n .0 ≡ 0
   pub s : m .state .sums .s ≡ pos 0
   pub high : m .state .sums .sq .high ≡ 0
   pub low : m .state .sums .sq .low ≡ 0
   pub P : m .state .sums .p ≡ 0
   pub Q : m .state .sums .q ≡ 0
-  pub a : m .state .a ≡ replicate 15 0
-  pub h : m .state .h ≡ replicate 15 I
+  pub a : m .state .a ≡ replicate thresholds (samplesOf 0)
+  pub h : m .state .h ≡ replicate thresholds I
 
 -- the fresh meter: that setting, each h_j = I, all else zero
 abbrev pub Fresh : Setting → Meter → Type 0

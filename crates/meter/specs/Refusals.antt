@@ -1,18 +1,26 @@
 -- Why a call is refused: document 01, "Why a call is refused". Each condition under its own name; the lists are in the order of testing.
-use mathlib.Core.Bool.{Bool, false, not, _||_}
+use mathlib.Core.Bool.{Bool, false, not, _&&_, _||_}
 use mathlib.Core.List.{List, [], _∷_, _++_}
 use Prim.Native.Nat.{ℕ, zero, suc, _+_, _*_, _^_}
 use lib.Dec.{eqb, ltb}
 use lib.IntN.{ℤ, natAbs}
 use lib.ListN.{length, getD}
-use Rattle.level.specs.Logarithm.{number}
+use Rattle.level.specs.Types.{thresholds, activity, twoWords}
 use Rattle.rate.specs.Rates.{isNamed}
 use Rattle.refusal.specs.First.{Rule}
 use Rattle.block.specs.Block.{count, before}
 use Rattle.block.specs.Refusals.{blockRules}
-use Rattle.meter.specs.declared.Meter.{Meter}
+use Rattle.sample.specs.declared.State.{State}
+use Rattle.sample.specs.declared.Sums.{Sums}
+use Rattle.sample.specs.Sample.{mostSamples}
 use Rattle.setting.specs.declared.Setting.{Setting}
 use Rattle.setting.specs.Settings.{iOf}
+use Rattle.meter.specs.declared.Meter.{Meter}
+
+-- whether one of these holds
+unfoldable pub anyOf : List Bool → Bool
+anyOf [] = false
+anyOf (b ∷ rest) = b || anyOf rest
 
 -- whether f holds at some j below k
 unfoldable pub someBelow : ℕ → (ℕ → Bool) → Bool
@@ -23,54 +31,65 @@ someBelow (suc k) f = someBelow k f || f k
 unfoldable pub unnamedCode : Setting → Bool
 unnamedCode c = not (isNamed (c .code))
 
--- 2, condition by condition: the rate code names no rate
-unfoldable pub unnamedSetting : Meter → Bool
-unnamedSetting m = unnamedCode (m .setting)
+-- the bounds of refusal 2: |s| and sq a sample, and P and Q
+abbrev pub sumBound : ℕ
+sumBound = 2 ^ 15
 
--- n > 2^48
-unfoldable pub manySamples : Meter → Bool
-manySamples m = ltb (2 ^ 48) (m .state .sums .n)
+abbrev pub squareBound : ℕ
+squareBound = 2 ^ 30
+
+abbrev pub envelopeBound : ℕ
+envelopeBound = 2 ^ 39
+
+-- 2, the sums: n > 2^48
+unfoldable pub manySamples : Sums → Bool
+manySamples m = ltb mostSamples (m .n .0)
 
 -- |s| > n·2^15
-unfoldable pub largeSum : Meter → Bool
-largeSum m = ltb (m .state .sums .n * 2 ^ 15) (natAbs (m .state .sums .s))
+unfoldable pub largeSum : Sums → Bool
+largeSum m = ltb (m .n .0 * sumBound) (natAbs (m .s))
 
 -- sq > n·2^30
-unfoldable pub largeSquares : Meter → Bool
-largeSquares m = ltb (m .state .sums .n * 2 ^ 30) (number (m .state .sums .sq))
+unfoldable pub largeSquares : Sums → Bool
+largeSquares m = ltb (m .n .0 * squareBound) (twoWords (m .sq))
 
 -- P or Q > 2^39
-unfoldable pub largeEnvelope : Meter → Bool
-largeEnvelope m = ltb (2 ^ 39) (m .state .sums .p) || ltb (2 ^ 39) (m .state .sums .q)
+unfoldable pub largeP : Sums → Bool
+largeP m = ltb envelopeBound (m .p)
 
--- an h_j > I
-unfoldable pub longHangover : Meter → Bool
-longHangover m = someBelow 15 (λ j. ltb (iOf (m .setting)) (getD (m .state .h) j 0))
+unfoldable pub largeQ : Sums → Bool
+largeQ m = ltb envelopeBound (m .q)
 
--- an a_j > n
-unfoldable pub largeCount : Meter → Bool
-largeCount m = someBelow 15 (λ j. ltb (m .state .sums .n) (getD (m .state .a) j 0))
+unfoldable pub impossibleSums : Sums → Bool
+impossibleSums m = anyOf (manySamples m ∷ largeSum m ∷ largeSquares m ∷ largeP m ∷ largeQ m ∷ [])
 
--- a_j rising with j
-unfoldable pub risingCounts : Meter → Bool
-risingCounts m = someBelow 14 (λ j. ltb (getD (m .state .a) j 0) (getD (m .state .a) (j + 1) 0))
+-- 2, the counters at a threshold j: h_j > I
+unfoldable pub longHangover : (I : ℕ) → State → ℕ → Bool
+longHangover I m j = ltb I (getD (m .h) j 0)
+
+-- a_j > n
+unfoldable pub largeCount : State → ℕ → Bool
+largeCount m j = ltb (m .sums .n .0) (activity (m .a) j)
+
+-- a_j rising with j, from this threshold to the next, where there is one
+unfoldable pub risingCount : State → ℕ → Bool
+risingCount m j = ltb (j + 1) thresholds && ltb (activity (m .a) j) (activity (m .a) (j + 1))
 
 -- h_j falling with j
-unfoldable pub fallingHangovers : Meter → Bool
-fallingHangovers m = someBelow 14 (λ j. ltb (getD (m .state .h) (j + 1) 0) (getD (m .state .h) j 0))
+unfoldable pub fallingHangover : State → ℕ → Bool
+fallingHangover m j = ltb (j + 1) thresholds && ltb (getD (m .h) (j + 1) 0) (getD (m .h) j 0)
+
+unfoldable pub impossibleCounter : (I : ℕ) → State → ℕ → Bool
+impossibleCounter I m j = anyOf (longHangover I m j ∷ largeCount m j ∷ risingCount m j ∷ fallingHangover m j ∷ [])
 
 -- 2: a meter no measurement could hold
 unfoldable pub impossible : Meter → Bool
 impossible m =
-    unnamedSetting m
-    || manySamples m
-    || largeSum m
-    || largeSquares m
-    || largeEnvelope m
-    || longHangover m
-    || largeCount m
-    || risingCounts m
-    || fallingHangovers m
+    anyOf
+    (unnamedCode (m .setting)
+    ∷ impossibleSums (m .state .sums)
+    ∷ someBelow thresholds (impossibleCounter (iOf (m .setting)) (m .state))
+    ∷ [])
 
 -- 3: a chunk above 4096
 unfoldable pub longChunk : List ℤ → Bool
@@ -78,11 +97,11 @@ longChunk xs = ltb 4096 (length xs)
 
 -- 10: the samples before a block are not n
 unfoldable pub wrongPlace : Meter → List ℕ → Bool
-wrongPlace m b = not (eqb (before b) (m .state .sums .n))
+wrongPlace m b = not (eqb (before b) (m .state .sums .n .0))
 
 -- 11: the new samples would take n past 2^48
 unfoldable pub tooMany : Meter → ℕ → Bool
-tooMany m new = ltb (2 ^ 48) (m .state .sums .n + new)
+tooMany m new = ltb mostSamples (m .state .sums .n .0 + new)
 
 unfoldable pub openRules : Setting → List Rule
 openRules c = (1, unnamedCode c) ∷ []

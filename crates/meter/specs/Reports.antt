@@ -1,23 +1,22 @@
 -- The report on a meter: document 01, "The report", and its refusals.
 use mathlib.Core.Bool.{Bool, true, false, _&&_}
-use mathlib.Core.List.{List, [], _∷_, map}
+use mathlib.Core.List.{List, [], _∷_}
 use mathlib.Core.Option.{Option, none, some}
 use Prim.Native.Nat.{ℕ}
 use lib.Dec.{eqb}
 use lib.IntN.{ℤ, pos}
-use lib.ListN.{getD}
 use lib.Signed.{ltZ}
-use Rattle.level.specs.Logarithm.{number}
-use Rattle.level.specs.declared.Samples.{Samples}
+use Rattle.level.specs.Types.{samplesOf, thresholds, activity, twoWords, words}
 use Rattle.refusal.specs.First.{Rule}
 use Rattle.meter.specs.declared.Meter.{Meter}
-use Rattle.sample.specs.Sample.{fifteen, words}
-use Rattle.crossing.specs.Found.{levelsAt, noLevels, crossingIn, firstExcess}
+use Rattle.sample.specs.Sample.{each}
+use Rattle.crossing.specs.Searched.{levelsAt, noLevels, crossingIn, firstExcess}
 use Rattle.meter.specs.declared.Report.{Report}
 use Rattle.meter.specs.Refusals.{impossible}
 
-abbrev pub samplesOf : ℕ → Samples
-samplesOf n = record { 0 = n }
+-- M, 15.9 dB
+abbrev pub margin : ℤ
+margin = pos 21635
 
 abbrev pub isNone : Option ℕ → Bool
 isNone none = true
@@ -25,22 +24,22 @@ isNone (some j) = false
 
 -- the crossing of a meter, and d_0
 unfoldable pub crossingOf : Meter → Option ℕ
-crossingOf m = crossingIn (number (m .state .sums .sq)) (m .state .a)
+crossingOf m = crossingIn margin (twoWords (m .state .sums .sq)) (m .state .a)
 
 unfoldable pub firstOfMeter : Meter → ℤ
-firstOfMeter m = firstExcess (number (m .state .sums .sq)) (m .state .a)
+firstOfMeter m = firstExcess margin (twoWords (m .state .sums .sq)) (m .state .a)
 
 -- 12: n = 0
 unfoldable pub noSamples : Meter → Bool
-noSamples m = eqb (m .state .sums .n) 0
+noSamples m = eqb (m .state .sums .n .0) 0
 
 -- 13: sq = 0
 unfoldable pub noSignal : Meter → Bool
-noSignal m = eqb (number (m .state .sums .sq)) 0
+noSignal m = eqb (twoWords (m .state .sums .sq)) 0
 
 -- 14: a_0 = 0
 unfoldable pub noActivity : Meter → Bool
-noActivity m = eqb (getD (m .state .a) 0 0) 0
+noActivity m = eqb (activity (m .state .a) 0) 0
 
 -- 15: no crossing and d_0 < 0
 unfoldable pub levelBelow : Meter → Bool
@@ -62,18 +61,18 @@ reportRules m =
 
 -- no report: all its fields are zero
 unfoldable pub noReport : Report
-noReport = record { n = samplesOf 0; s = pos 0; sq = words 0; a = map samplesOf (fifteen (λ j. 0)); levels = noLevels }
+noReport = record { n = samplesOf 0; s = pos 0; sq = words 0; a = each thresholds (λ j. samplesOf 0); levels = noLevels }
 
 -- the report at a crossing j
 unfoldable pub reportAt : Meter → ℕ → Report
 reportAt m j =
     let sums = m .state .sums in
     record {
-      n = samplesOf (sums .n);
+      n = sums .n;
       s = sums .s;
       sq = sums .sq;
-      a = map samplesOf (m .state .a);
-      levels = levelsAt (sums .n) (number (sums .sq)) (m .state .a) j;
+      a = m .state .a;
+      levels = levelsAt margin (sums .n .0) (twoWords (sums .sq)) (m .state .a) j;
     }
 
 -- the report at what the search for a crossing found

@@ -1,20 +1,21 @@
 // Chunk calls and block calls.
-ghost use mathlib.Core.Bool.{true};
 ghost use mathlib.Core.Path.{_≡_};
 ghost use lib.ListN.{length};
-ghost use Rattle.block.specs.Refusals.{sound, samplesPart};
 ghost use Rattle.refusal.specs.Number.{numberOf};
 ghost use Rattle.meter.specs.Calls.{handedBy, chunkCall, blockCall};
-ghost use Rattle.meter.specs.Inner.{Usable, Ready, refusedWith, takenBy};
+ghost use Rattle.meter.specs.Inner.{Followed, Ready, refusedWith, takenBy};
 use crate::Fed;
 use crate::Meter;
 use crate::usable;
-use block::fields;
-use block::samples;
 use rate::Named;
 use rate::Rate;
 use refusal::Answer;
 use refusal::Refusal;
+use sample::Counting;
+use sample::MOST_SAMPLES;
+
+// The most samples that a chunk may have.
+const LONGEST_CHUNK: usize = 4096;
 
 impl Meter {
     // The meter after a chunk's samples in order; or a refusal, with the meter as it was.
@@ -23,10 +24,10 @@ impl Meter {
     {
         match usable::rate(self) {
             Named::As(rate) => {
-                if 4096 < xs.len() {
+                if LONGEST_CHUNK < xs.len() {
                     return refused(self, Refusal::LongChunk);
                 }
-                take(self, rate.k, rate.i, xs)
+                feed(self, rate, xs)
             }
             Named::Nothing => refused(self, Refusal::ImpossibleMeter),
         }
@@ -54,19 +55,19 @@ impl Meter {
 
 // A sound block at a meter: its rate code, its place, and then its samples, which are in `part`.
 fn follow(meter: Meter, rate: Rate, bytes: &[u8], part: &[u8]) -> Fed
-    requires { ⌜ Usable meter rate ⌝ }
-    requires { ⌜ (sound (now bytes) ≡ true) × (now part ≡ samplesPart (now bytes)) ⌝ }
+    requires { ⌜ Followed meter rate (now bytes) (now part) ⌝ }
     ensures { λ r. ⌜ handedBy r ≡ blockCall meter (now (bytes .entry)) ⌝ }
 {
-    if fields::rate_code(bytes) != rate.code {
+    if block::rate_code(bytes) != rate.code {
         return refused(meter, Refusal::BlockRate);
     }
-    if fields::before(bytes) != meter.state.sums.n {
+    if block::before(bytes) != meter.state.sums.n.count() {
         return refused(meter, Refusal::BlockPlace);
     }
-    let samples = samples::decoded(part);
+    let mut samples = [0i16; 248];
+    block::decode(part, &mut samples);
     let count = part.len() / 2;
-    take(meter, rate.k, rate.i, &samples[0..count])
+    feed(meter, rate, &samples[0..count])
 }
 
 // A refused call hands back the meter that it was given.
@@ -80,16 +81,20 @@ pub(crate) fn refused(meter: Meter, why: Refusal) -> Fed
 }
 
 // Samples that nothing but refusal 11 can keep out.
-pub(crate) fn take(meter: Meter, k: u64, i: u64, xs: &[i16]) -> Fed
-    requires { ⌜ Ready meter k i (length (now xs)) ⌝ }
+pub(crate) fn feed(meter: Meter, rate: Rate, xs: &[i16]) -> Fed
+    requires { ⌜ Ready meter rate (length (now xs)) ⌝ }
     ensures { λ r. ⌜ handedBy r ≡ takenBy meter (now (xs .entry)) ⌝ }
 {
-    let total = meter.state.sums.n + xs.len() as u64;
-    if 281474976710656 < total {
+    let total = meter.state.sums.n.count() + xs.len() as u64;
+    if MOST_SAMPLES < total {
         return refused(meter, Refusal::TooManySamples);
     }
     let setting = meter.setting;
-    let state = meter.state.after(k, i, xs);
+    let by = Counting {
+        k: rate.k,
+        i: rate.i,
+    };
+    let state = meter.state.after(by, xs);
     Fed {
         answer: Answer::Accepted,
         meter: Meter { setting, state },

@@ -8,6 +8,7 @@ mod usable;
 use crossing::Levels;
 use level::Samples;
 use level::Squares;
+use level::THRESHOLDS;
 use refusal::Answer;
 use sample::State;
 use setting::Setting;
@@ -23,7 +24,7 @@ pub struct Report {
     pub n: Samples,
     pub s: i64,
     pub sq: Squares,
-    pub a: [Samples; 15],
+    pub a: [Samples; THRESHOLDS],
     pub levels: Levels,
 }
 

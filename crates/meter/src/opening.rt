@@ -4,7 +4,9 @@ ghost use Rattle.meter.specs.Calls.{handedBy, openCall};
 ghost use Rattle.meter.specs.Inner.{freshAt};
 use crate::Fed;
 use crate::Meter;
+use level::Samples;
 use level::Squares;
+use level::THRESHOLDS;
 use rate::Named;
 use rate::Rate;
 use refusal::Answer;
@@ -32,11 +34,12 @@ impl Meter {
 }
 
 // A meter that has taken no sample: all zeros but the hangovers.
-fn fresh(setting: Setting, i: u64) -> Meter
-    ensures { λ r. ⌜ r ≡ freshAt setting i ⌝ }
+fn fresh(setting: Setting, hangover: u64) -> Meter
+    ensures { λ r. ⌜ r ≡ freshAt setting hangover ⌝ }
 {
+    let n = Samples::of(0);
     let sums = Sums {
-        n: 0,
+        n,
         s: 0,
         sq: Squares { high: 0, low: 0 },
         p: 0,
@@ -46,8 +49,8 @@ fn fresh(setting: Setting, i: u64) -> Meter
         setting,
         state: State {
             sums,
-            a: [0; 15],
-            h: [i; 15],
+            a: [n; THRESHOLDS],
+            h: [hangover; THRESHOLDS],
         },
     }
 }

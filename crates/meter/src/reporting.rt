@@ -1,14 +1,10 @@
 // The report on a meter.
 ghost use mathlib.Core.Bool.{false};
-ghost use mathlib.Core.List.{map};
 ghost use mathlib.Core.Path.{_≡_};
-ghost use lib.Dec.{eqb};
-ghost use Rattle.level.specs.Logarithm.{number};
 ghost use Rattle.refusal.specs.Number.{numberOf};
 ghost use Rattle.meter.specs.Calls.{reportedBy, reportCall};
-ghost use Rattle.meter.specs.Inner.{unreported, reportedWith};
+ghost use Rattle.meter.specs.Inner.{refusedReport, reportedWith};
 ghost use Rattle.meter.specs.Refusals.{impossible};
-ghost use Rattle.meter.specs.Reports.{samplesOf};
 use crate::Meter;
 use crate::Report;
 use crate::Reported;
@@ -18,10 +14,13 @@ use crossing::Levels;
 use level::Samples;
 use level::Squares;
 use level::Steps;
+use level::THRESHOLDS;
 use rate::Named;
 use refusal::Answer;
 use refusal::Refusal;
-use sample::State;
+
+// M, 15.9 dB.
+const MARGIN: i64 = 21635;
 
 impl Meter {
     // The report on a meter; or a refusal, with a report of all zeros.
@@ -41,31 +40,22 @@ fn measured(meter: Meter) -> Reported
     ensures { λ r. ⌜ reportedBy r ≡ reportCall meter ⌝ }
 {
     let sums = meter.state.sums;
+    let sq = sums.sq;
     let a = meter.state.a;
-    if sums.n == 0 {
+    if sums.n.count() == 0 {
         return unreported(meter, Refusal::NoSamples);
     }
-    if is_zero(sums.sq) {
+    if sq.is_zero() {
         return unreported(meter, Refusal::NoSignal);
     }
-    if a[0] == 0 {
+    if a[0].count() == 0 {
         return unreported(meter, Refusal::NoActivity);
     }
-    match crossing::find_levels(Samples(sums.n), sums.sq, &a) {
+    match crossing::find_levels(sums.n, sq, a, Steps::of(MARGIN)) {
         Found::At(levels) => reported(meter, levels),
         Found::Below => unreported(meter, Refusal::NoCrossingBelow),
         Found::Above => unreported(meter, Refusal::NoCrossingAbove),
     }
-}
-
-// Whether both words are 0.
-fn is_zero(sq: Squares) -> bool
-    ensures { λ r. ⌜ r ≡ eqb (number sq) 0 ⌝ }
-{
-    if sq.high != 0 {
-        return false;
-    }
-    sq.low == 0
 }
 
 // A report with levels.
@@ -73,51 +63,41 @@ fn reported(meter: Meter, levels: Levels) -> Reported
     ensures { λ r. ⌜ reportedBy r ≡ reportedWith levels meter ⌝ }
 {
     let sums = meter.state.sums;
+    let n = sums.n;
     let sq = sums.sq;
+    let a = meter.state.a;
     Reported {
         answer: Answer::Accepted,
         meter,
         report: Report {
-            n: Samples(sums.n),
+            n,
             s: sums.s,
             sq,
-            a: counts(meter.state),
+            a,
             levels,
         },
     }
 }
 
-// The activity counts as counts of samples.
-fn counts(state: State) -> [Samples; 15]
-    ensures { λ r. ⌜ r ≡ map samplesOf (state .a) ⌝ }
-{
-    let a = state.a;
-    let mut counts = [Samples(0); 15];
-    let mut j = 0;
-    while j < 15 {
-        counts[j] = Samples(a[j]);
-        j += 1;
-    }
-    counts
-}
-
 // A refused report is all zeros.
 fn unreported(meter: Meter, why: Refusal) -> Reported
-    ensures { λ r. ⌜ reportedBy r ≡ unreported (numberOf why) meter ⌝ }
+    ensures { λ r. ⌜ reportedBy r ≡ refusedReport (numberOf why) meter ⌝ }
 {
+    let n = Samples::of(0);
+    let zero = Steps::of(0);
     Reported {
         answer: Answer::Refused(why),
         meter,
         report: Report {
-            n: Samples(0),
+            n,
             s: 0,
             sq: Squares { high: 0, low: 0 },
-            a: [Samples(0); 15],
+            a: [n; THRESHOLDS],
             levels: Levels {
-                level: Steps(0),
-                active: Steps(0),
-                threshold: Steps(0),
-                factor: Steps(0),
+                level: zero,
+                active: zero,
+                threshold: zero,
+                factor: zero,
                 lower: 0,
                 upper: 0,
             },

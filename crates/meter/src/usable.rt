@@ -1,18 +1,28 @@
-// Refusal 2: a meter that no measurement could hold.
+// Refusal 2: a meter that no measurement could hold. Its conditions are tested in the definition's order.
+ghost use mathlib.Core.List.{[], _∷_};
 ghost use mathlib.Core.Path.{_≡_};
-ghost use Prim.Native.Nat.{_+_, _*_, _^_, _≤_};
+ghost use Prim.Native.Nat.{_*_};
 ghost use lib.Dec.{ltb};
-ghost use lib.ListN.{getD};
-ghost use Rattle.level.specs.Logarithm.{number};
+ghost use Rattle.level.specs.Types.{thresholds, twoWords};
 ghost use Rattle.rate.specs.Rates.{named};
-ghost use Rattle.meter.specs.Inner.{usableRate, largeSums, wrongCounters};
-ghost use Rattle.meter.specs.Refusals.{someBelow};
+ghost use Rattle.meter.specs.Inner.{NextPlace, usableRate};
+ghost use Rattle.meter.specs.Refusals.{anyOf, someBelow, squareBound, impossibleSums, impossibleCounter};
 use crate::Meter;
 use level::Squares;
+use level::THRESHOLDS;
 use rate::Named;
 use rate::Rate;
+use sample::MOST_SAMPLES;
 use sample::State;
 use sample::Sums;
+
+// The bounds of |s| and of sq for each sample, and of P and Q.
+const SUM_BOUND: u64 = 1 << 15;
+const SQUARE_BOUND: u64 = 1 << 30;
+const ENVELOPE_BOUND: u64 = 1 << 39;
+
+// So many samples' bounds of sq make one of the high word.
+const SAMPLES_A_WORD: u64 = 1 << 34;
 
 // The rate of a meter that a measurement could hold; of any other, none.
 pub(crate) fn rate(m: Meter) -> Named
@@ -20,10 +30,10 @@ pub(crate) fn rate(m: Meter) -> Named
 {
     match Rate::of(m.setting.code) {
         Named::As(rate) => {
-            if large_sums(m.state.sums) {
+            if impossible_sums(m.state.sums) {
                 return Named::Nothing;
             }
-            if wrong_counters(m.state, rate.i) {
+            if impossible_counters(m.state, rate.i) {
                 return Named::Nothing;
             }
             Named::As(rate)
@@ -33,66 +43,47 @@ pub(crate) fn rate(m: Meter) -> Named
 }
 
 // Whether n, s, sq, P or Q is too large. No product with n before n itself is tested.
-fn large_sums(sums: Sums) -> bool
-    ensures { λ r. ⌜ r ≡ largeSums sums ⌝ }
+fn impossible_sums(sums: Sums) -> bool
+    ensures { λ r. ⌜ r ≡ impossibleSums sums ⌝ }
 {
-    let n = sums.n;
-    if 281474976710656 < n {
+    let n = sums.n.count();
+    let sq = sums.sq;
+    if MOST_SAMPLES < n {
         return true;
     }
-    if n * 32768 < signed::magnitude(sums.s) {
+    if n * SUM_BOUND < signed::magnitude(sums.s) {
         return true;
     }
-    if large_squares(sums.sq, n) {
+    if sq.above(square_bound(n)) {
         return true;
     }
-    if 549755813888 < sums.p {
+    if ENVELOPE_BOUND < sums.p {
         return true;
     }
-    549755813888 < sums.q
+    ENVELOPE_BOUND < sums.q
 }
 
-// Whether the two words are above n·2^30, which is n / 2^34 in the high word and the rest in the low.
-fn large_squares(sq: Squares, n: u64) -> bool
-    requires { ⌜ n ≤ 2 ^ 48 ⌝ }
-    ensures { λ r. ⌜ r ≡ ltb (n * 2 ^ 30) (number sq) ⌝ }
+// n·2^30 in two words.
+fn square_bound(n: u64) -> Squares
+    ensures { λ r. ⌜ twoWords r ≡ n * squareBound ⌝ }
 {
-    let high = n / 17179869184;
-    let low = (n % 17179869184) * 1073741824;
-    if sq.high < high {
-        return false;
+    Squares {
+        high: n / SAMPLES_A_WORD,
+        low: (n % SAMPLES_A_WORD) * SQUARE_BOUND,
     }
-    if high < sq.high {
-        return true;
-    }
-    low < sq.low
 }
 
-// Whether a count or a hangover is too large, or out of order.
-fn wrong_counters(state: State, i: u64) -> bool
-    ensures { λ r. ⌜ r ≡ wrongCounters i state ⌝ }
+// Whether a count or a hangover is too large, or out of order with the next.
+fn impossible_counters(state: State, hangover: u64) -> bool
+    ensures { λ r. ⌜ r ≡ someBelow thresholds (impossibleCounter hangover state) ⌝ }
 {
+    let n = state.sums.n.count();
     let a = state.a;
     let h = state.h;
-    if some_above(&h, i) {
-        return true;
-    }
-    if some_above(&a, state.sums.n) {
-        return true;
-    }
-    if some_below(&a, 0, 1) {
-        return true;
-    }
-    some_below(&h, 1, 0)
-}
-
-// Whether one of the fifteen is above a number.
-fn some_above(x: &[u64; 15], most: u64) -> bool
-    ensures { λ r. ⌜ r ≡ someBelow 15 (λ j. ltb most (getD (now (x .entry)) j 0)) ⌝ }
-{
     let mut j = 0;
-    while j < 15 {
-        if most < x[j] {
+    while j < THRESHOLDS {
+        let k = next_place(j);
+        if impossible_counter(a[j].count(), h[j], a[k].count(), h[k], n, hangover) {
             return true;
         }
         j += 1;
@@ -100,17 +91,25 @@ fn some_above(x: &[u64; 15], most: u64) -> bool
     false
 }
 
-// Whether one is below another, where the two stand at most one place apart.
-fn some_below(x: &[u64; 15], one: usize, other: usize) -> bool
-    requires { ⌜ (one ≤ 1) × (other ≤ 1) ⌝ }
-    ensures { λ r. ⌜ r ≡ someBelow 14 (λ j. ltb (getD (now (x .entry)) (j + one) 0) (getD (now (x .entry)) (j + other) 0)) ⌝ }
+// The place after one; after the last, the last.
+fn next_place(j: usize) -> usize
+    ensures { λ r. ⌜ NextPlace j r ⌝ }
 {
-    let mut j = 0;
-    while j < 14 {
-        if x[j + one] < x[j + other] {
-            return true;
-        }
-        j += 1;
+    if j < THRESHOLDS - 1 { j + 1 } else { j }
+}
+
+// The conditions on one counter a, h, with the next threshold's b, g beside it.
+fn impossible_counter(a: u64, h: u64, b: u64, g: u64, n: u64, hangover: u64) -> bool
+    ensures { λ r. ⌜ r ≡ anyOf (ltb hangover h ∷ (ltb n a ∷ (ltb a b ∷ (ltb g h ∷ [])))) ⌝ }
+{
+    if hangover < h {
+        return true;
     }
-    false
+    if n < a {
+        return true;
+    }
+    if a < b {
+        return true;
+    }
+    g < h
 }

@@ -1,183 +1,133 @@
--- Where the difference is 0 the level is A_j; else the sizes of the differences give the definition's whole part.
+-- Where the difference is 0 the level is A_j; else it lies between A_(j−1) and A_j.
 use borrow.Author.Needs.{needs}
-use mathlib.Core.Bool.{false}
-use mathlib.Core.Path.{_≡_, ap, ap₂, _∙_, subst, sym}
-use Prim.Native.Nat.{ℕ, _-_, _^_, _≤_, _<_}
+use mathlib.Core.Path.{_≡_, ap, ap₂, _∙_, sym}
+use Prim.Native.Nat.{ℕ, _-_}
 use native.Mathlib.Nat.{le-trans}
 use native.Mathlib.Omega.{arith}
-use lib.IntN.{ℤ, pos, natAbs, _-ℤ_}
-use lib.ListN.{getD}
-use Rattle.level.specs.Logarithm.{lev}
+use lib.IntN.{ℤ, pos, _-ℤ_}
+use lib.Signed.{ltZ}
+use Rattle.level.specs.Types.{activity}
 use Rattle.crossing.specs.Crossing.{isZero, lowerOf, activeLevel}
-use Rattle.crossing.specs.Inner.{Small}
-use Rattle.crossing.specs.Levels.{activeAt, excess, levelOfThreshold}
-use Rattle.crossing.proofs.Bounds.{alive}
-use Rattle.crossing.proofs.Interpolated.{Part, part}
-use Rattle.crossing.proofs.Sizes.{lev-max, active-small, excess-small, few}
-use Rattle.crossing.proofs.Words.{zero-of, not-zero}
+use Rattle.crossing.specs.Inner.Steps.{OverCount}
+use Rattle.crossing.specs.Levels.{activeAt, excess}
+use Rattle.crossing.proofs.Bounds.{Turned, alive, turned, rises}
+use Rattle.crossing.proofs.Sizes.{falls, few}
 use Rattle.crossing.proofs.interpolation.at_crossing.Statement.{statement}
 use Rattle.crossing.proofs.interpolation.at_crossing.Tie as tie
 
+-- A and d at a threshold, by what the function is given
+abbrev A : tie.Start → ℕ → ℤ
+A s = activeAt (s .args .power .0) (s .args .t2)
+
+abbrev d : tie.Start → ℕ → ℤ
+d s = excess (s .args .margin .0) (s .args .power .0) (s .args .t2)
+
 -- ---- at j
 
-positive : (c : tie.Start) → 1 ≤ getD (c .args .a .now) (c .args .j) 0
-positive c = alive 21635 (c .args .power .0) (c .args .a .now) (c .args .j) (c .pre .1 .1)
+over-count : (s : tie.Start) → OverCount (s .args .power .0) (activity (s .args .t2) (s .args .j))
+over-count s = record { power = s .pre .search .power; some = alive (s .args .margin .0) (s .args .power .0) (s .args .t2) (s .args .j) (s .pre .crosses) }
 
-count-few : (c : tie.Start) → getD (c .args .a .now) (c .args .j) 0 ≤ 2 ^ 80
-count-few c = few (c .args .a .now) (c .pre .0 .1) (c .args .j) (c .pre .1 .0)
-
-upper-is : (c : tie.After-minus) → c .minus .result .0 ≡ activeAt (c .before .before .before .args .power .0) (c .before .before .before .args .a .now) (c .before .before .before .args .j)
+upper-is : (c : tie.After-over) → c .over .result .0 ≡ A (c .before .before) (c .before .before .args .j)
 unfolding activeAt
-upper-is c = c .minus .ensures ∙ ap (λ (z : ℤ). c .before .before .before .args .power .0 -ℤ z) (c .before .of-count .ensures)
+upper-is c = c .over .ensures .is
 
-after-is : (c : tie.After-excess)
-    → c .excess .result .0
-    ≡ excess 21635 (c .before .before .before .before .before .args .power .0) (c .before .before .before .before .before .args .a .now) (c .before .before .before .before .before .args .j)
-unfolding excess activeAt levelOfThreshold
-after-is c = c .excess .ensures
+after-is : (c : tie.After-excess) → c .excess .result .0 ≡ d (c .before .before .before) (c .before .before .before .args .j)
+unfolding excess activeAt
+after-is c = c .excess .ensures .is
+
+abbrev start : tie.After-is-zero → tie.Start
+start c = c .before .before .before .before
+
+test-is : (c : tie.After-is-zero) → c .is-zero .result ≡ isZero (d (start c) (start c .args .j))
+test-is c = c .is-zero .ensures ∙ ap isZero (after-is (c .before))
 
 -- ---- at j − 1
 
-differs : (c : tie.Else1)
-    → isZero (excess 21635 (c .before .before .before .before .before .before .before .before .args .power .0) (c .before .before .before .before .before .before .before .before .args .a .now) (c .before .before .before .before .before .before .before .before .args .j))
-    ≡ false
-differs c = let e = c .before .before .before in ap isZero (sym (after-is e)) ∙ not-zero (e .excess .result .0) (c .if1 .left)
-
-turns : (c : tie.Else1)
-    → Part 21635 (c .before .before .before .before .before .before .before .before .args .power .0) (c .before .before .before .before .before .before .before .before .args .a .now) (c .before .before .before .before .before .before .before .before .args .j)
+turns : (c : tie.Else1) → let s = start (c .before) in Turned (s .args .margin .0) (s .args .power .0) (s .args .t2) (s .args .j)
 turns c =
-    let s = c .before .before .before .before .before .before .before .before in
-    part 21635 (s .args .power .0) (s .args .a .now) (s .args .j) (s .pre .0 .0) (s .pre .0 .1) (s .pre .1 .0) (s .pre .1 .1) (differs c)
+    let s = start (c .before) in
+    let p = s .pre in
+    turned _ _ _ _ (p .crosses) (falls _ (p .search .counts) _ (p .place)) (few _ (p .search .counts) _ (omega (arith, p .place))) (sym (test-is (c .before)) ∙ c .if1 .left)
 
-positive-before : (c : tie.Else1) → 1 ≤ getD (c .before .before .before .before .before .before .before .before .args .a .now) (c .before .before .before .before .before .before .before .before .args .j - 1) 0
-positive-before c = le-trans (positive (c .before .before .before .before .before .before .before .before)) (turns c .counts)
+over-count-before : (c : tie.Else1) → let s = start (c .before) in OverCount (s .args .power .0) (activity (s .args .t2) (s .args .j - 1))
+over-count-before c = let k = over-count (start (c .before)) in record { power = k .power; some = le-trans (k .some) (turns c .counts) }
 
-few-before : (c : tie.Else1) → getD (c .before .before .before .before .before .before .before .before .args .a .now) (c .before .before .before .before .before .before .before .before .args .j - 1) 0 ≤ 2 ^ 80
-few-before c = let s = c .before .before .before .before .before .before .before .before in few (s .args .a .now) (s .pre .0 .1) (s .args .j - 1) (omega (arith, s .pre .1 .0))
-
-lower-level : (c : tie.After-minus2) → c .minus2 .result .0 ≡ activeAt (c .before .before .before .before .before .before .before .before .before .before .before .args .power .0) (c .before .before .before .before .before .before .before .before .before .before .before .args .a .now) (c .before .before .before .before .before .before .before .before .before .before .before .args .j - 1)
+lower-is : (c : tie.After-over2) → let s = start (c .before .before .before) in c .over2 .result .0 ≡ A s (s .args .j - 1)
 unfolding activeAt
-lower-level c = c .minus2 .ensures ∙ ap (λ (z : ℤ). c .before .before .before .before .before .before .before .before .before .before .before .args .power .0 -ℤ z) (c .before .of-count2 .ensures)
+lower-is c = c .over2 .ensures .is
 
-upper-level : (c : tie.Else1) → c .before .before .before .before .before .minus .result .0 ≡ activeAt (c .before .before .before .before .before .before .before .before .args .power .0) (c .before .before .before .before .before .before .before .before .args .a .now) (c .before .before .before .before .before .before .before .before .args .j)
-upper-level c = upper-is (c .before .before .before .before .before)
+before-is : (c : tie.After-excess2) → let s = start (c .before .before .before .before) in c .excess2 .result .0 ≡ d s (s .args .j - 1)
+unfolding excess activeAt
+before-is c = c .excess2 .ensures .is
 
-before-is : (c : tie.After-excess2) → c .excess2 .result .0 ≡ excess 21635 (c .before .before .before .before .before .before .before .before .before .before .before .before .before .args .power .0) (c .before .before .before .before .before .before .before .before .before .before .before .before .before .args .a .now) (c .before .before .before .before .before .before .before .before .before .before .before .before .before .args .j - 1)
-unfolding excess activeAt levelOfThreshold
-before-is c = c .excess2 .ensures
-
--- a level of a count fits
-small-level : {z : ℤ} {n : ℕ} → z ≡ pos (lev n) → 1 ≤ n → n ≤ 2 ^ 80 → Small z
-small-level {n = n} e h u = subst Small (sym e) (omega (arith, lev-max n h u))
-
-mul-of-count : tie.Need-mul-of-count
-mul-of-count c = search needs
-
-element-copy-out-of-count : tie.Need-element-copy-out-of-count
-element-copy-out-of-count c = search needs
-
-of-count-requires : tie.Need-of-count-requires
-of-count-requires c κs = positive (c .before)
-
-minus-requires : tie.Need-minus-requires
-minus-requires c κs = (omega (arith, c .before .before .pre .0 .0 .at-most), small-level (c .of-count .ensures) (positive (c .before .before)) (count-few (c .before .before)))
-
-mul-excess : tie.Need-mul-excess
-mul-excess c = search needs
-
-element-copy-out-excess : tie.Need-element-copy-out-excess
-element-copy-out-excess c = search needs
+over-requires : tie.Need-over-requires
+over-requires c κs = over-count (c .before)
 
 excess-requires : tie.Need-excess-requires
-excess-requires c κs = let s = c .before .before .before .before in (s .pre .0 .0, (positive s, s .pre .1 .0))
+excess-requires c κs = let s = c .before .before in record { margin = s .pre .search .margin; over = over-count s; place = s .pre .place }
 
 returns : tie.Need-returns
 unfolding lowerOf activeLevel
 returns c =
-    let e = c .before .before .before in
-    let s = e .before .before .before .before .before in
-    let z = ap isZero (sym (after-is e) ∙ zero-of (e .excess .result .0) (record { sfits = c .before .struct-told .given .0 .1 }) (c .if1 .taken)) in
-    (simp z (upper-is (e .before .before)), simp z)
+    let o = c .before .before .before in
+    let z = sym (test-is (c .before)) ∙ c .if1 .taken in
+    record { level = record { is = simp z (upper-is o); size = omega (arith, o .over .ensures .size) }; lower = simp z }
 
 sub-i : tie.Need-sub-i
 sub-i c = turns c .from-one
 
-mul-of-count-2 : tie.Need-mul-of-count-2
-mul-of-count-2 c = search needs
-
-element-copy-out-of-count-2 : tie.Need-element-copy-out-of-count-2
-element-copy-out-of-count-2 c = search needs
-
-of-count-requires-2 : tie.Need-of-count-requires-2
-of-count-requires-2 c κs = positive-before (c .before)
-
-minus-requires-2 : tie.Need-minus-requires-2
-minus-requires-2 c κs =
-    let e = c .before .before in
-    (omega (arith, e .before .before .before .before .before .before .before .before .pre .0 .0 .at-most), small-level (c .of-count2 .ensures) (positive-before e) (few-before e))
-
-mul-excess-2 : tie.Need-mul-excess-2
-mul-excess-2 c = search needs
-
-element-copy-out-excess-2 : tie.Need-element-copy-out-excess-2
-element-copy-out-excess-2 c = search needs
+over-requires-2 : tie.Need-over-requires-2
+over-requires-2 c κs = over-count-before (c .before)
 
 excess-requires-2 : tie.Need-excess-requires-2
 excess-requires-2 c κs =
-    let e = c .before .before .before .before in
-    (e .before .before .before .before .before .before .before .before .pre .0 .0, (positive-before e, omega (arith, e .before .before .before .before .before .before .before .before .pre .1 .0, turns e .from-one)))
+    let e = c .before .before in
+    let p = start (e .before) .pre in
+    record { margin = p .search .margin; over = over-count-before e; place = omega (arith, p .place) }
 
 between-requires : tie.Need-between-requires
-unfolding activeAt
 between-requires c κs =
-    let e = c .before .before .before .before .before in
-    let s = e .before .before .before .before .before .before .before .before in
-    let S = s .args .power .0 in
-    let b = s .pre .0 .0 .at-most in
-    let h : s .args .j - 1 < 15 = omega (arith, s .pre .1 .0) in (
-      (
-        subst (λ (z : ℤ). natAbs z ≤ 2 ^ 21) (sym (lower-level (c .before .before))) (active-small S _ b (positive-before e) (few-before e)),
-        subst (λ (z : ℤ). natAbs z ≤ 2 ^ 21) (sym (upper-level e)) (active-small S _ b (positive s) (count-few s)),
-      ),
-      (
-        subst (λ (z : ℤ). natAbs z ≤ 2 ^ 22) (sym (c .excess2 .ensures)) (excess-small S _ (s .args .j - 1) b (positive-before e) (few-before e) h),
-        (
-          subst (λ (z : ℤ). natAbs z ≤ 2 ^ 22) (sym (e .before .before .before .excess .ensures)) (excess-small S _ (s .args .j) b (positive s) (count-few s) (s .pre .1 .0)),
-          subst (λ (w : ℕ). 0 < w) (sym (ap₂ (λ (x y : ℤ). natAbs (x -ℤ y)) (before-is c) (after-is (e .before .before .before)))) (turns e .apart),
-        ),
-      ),
-    )
+    let e = c .before .before .before in
+    let o = e .before .before .before in
+    let t = turns e in
+    record {
+      first = c .before .over2 .ensures .size;
+      second = o .over .ensures .size;
+      rises = ap₂ (λ (x y : ℤ). ltZ (x -ℤ y) (pos 0)) (upper-is o) (lower-is (c .before)) ∙ rises _ _ _ _ t;
+      before = c .excess2 .ensures .size;
+      after = e .before .before .excess .ensures .size;
+      above = ap (ltZ (pos 0)) (before-is c) ∙ t .above;
+      below = ap (λ (z : ℤ). ltZ z (pos 0)) (after-is (e .before .before)) ∙ t .below;
+    }
 
 returns-2 : tie.Need-returns-2
-unfolding lowerOf
+unfolding lowerOf activeLevel
 returns-2 c =
     let k = c .before in
-    let e = k .before .before .before .before .before in (
-      c .between .ensures
-          ∙ cc (lower-level (k .before .before), upper-level e, before-is k, after-is (e .before .before .before))
-          ∙ turns e .sizes,
-      simp (differs e),
-    )
+    let e = k .before .before .before in
+    let z = sym (test-is (e .before)) ∙ e .if1 .left in
+    record {
+      level = record {
+        is = simp z (c .between .ensures .is ∙ cc (lower-is (k .before), upper-is (e .before .before .before), before-is k, after-is (e .before .before)));
+        size = c .between .ensures .size;
+      };
+      lower = simp z;
+    }
 
 pub at-crossing-spec : {M : Type 1} → statement M
 at-crossing-spec =
     tie.close
     (tie.spec
-    mul-of-count
-    element-copy-out-of-count
-    of-count-requires
-    minus-requires
-    mul-excess
-    element-copy-out-excess
+    (λ c. search needs)
+    (λ c. search needs)
+    over-requires
     excess-requires
+    (λ c κs. search needs)
     returns
     sub-i
-    mul-of-count-2
-    element-copy-out-of-count-2
-    of-count-requires-2
-    minus-requires-2
-    mul-excess-2
-    element-copy-out-excess-2
+    (λ c. search needs)
+    (λ c. search needs)
+    over-requires-2
     excess-requires-2
     between-requires
     returns-2)

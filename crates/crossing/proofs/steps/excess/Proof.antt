@@ -1,72 +1,57 @@
 -- Each difference is small, so each fits.
 use borrow.Author.Needs.{needs}
-use mathlib.Core.Path.{_≡_, ap, ap₂, _∙_, subst, sym}
-use Prim.Native.Nat.{_*_, _^_, _≤_, _<_}
+use mathlib.Core.Path.{_≡_, ap, ap₂, _∙_}
+use Prim.Native.Nat.{_+_, _*_, _^_, _≤_}
 use native.Mathlib.Omega.{arith}
-use lib.IntN.{ℤ, pos, natAbs, _-ℤ_}
+use lib.IntN.{ℤ, natAbs, _-ℤ_}
 use mir.Syntax.{w64}
-use mir.Val.{toZ}
 use mir.Facts.{toZ-pos}
 use Rattle.signed.proofs.Sizes.{abs-minus}
-use Rattle.crossing.specs.Inner.{Small}
-use Rattle.crossing.proofs.Sizes.{lev-max, word}
+use Rattle.crossing.specs.Levels.{stepsAThreshold, levelOfThreshold}
+use Rattle.crossing.proofs.Sizes.{held}
 use Rattle.crossing.proofs.steps.excess.Statement.{statement}
 use Rattle.crossing.proofs.steps.excess.Tie as tie
 
--- the level of the count
-count-small : (c : tie.After-of-count) → natAbs (c .of-count .result .0) < 2 ^ 19
-count-small c = subst (λ (z : ℤ). natAbs z < 2 ^ 19) (sym (c .of-count .ensures)) (lev-max _ (c .before .pre .1 .0) (word _ (c .before .fits .count .fits)))
-
--- A_j
-active-small : (c : tie.After-minus) → natAbs (c .minus .result .0) ≤ 2 ^ 21
-active-small c =
+threshold-is : (c : tie.After-of) → c .of .result .0 ≡ levelOfThreshold (c .before .before .args .j)
+unfolding levelOfThreshold
+threshold-is c =
     let s = c .before .before in
-    subst (λ (z : ℤ). natAbs z ≤ 2 ^ 21) (sym (c .minus .ensures)) (omega (arith, abs-minus (s .args .power .0) (c .before .of-count .result .0), count-small (c .before), s .pre .0 .at-most))
+    held (c .of .ensures) ∙ toZ-pos w64 {n = stepsAThreshold * s .args .j} (omega (arith, s .pre .place))
 
--- C_j
-threshold-is : (c : tie.After-minus) → toZ w64 (8192 * c .before .before .args .j) ≡ pos (8192 * c .before .before .args .j)
-threshold-is c = toZ-pos w64 {n = 8192 * c .before .before .args .j} (omega (arith, c .before .before .pre .1 .1))
+threshold-size : (c : tie.After-of) → natAbs (c .of .result .0) ≤ 2 ^ 17
+unfolding levelOfThreshold
+threshold-size c = omega (arith, ap natAbs (threshold-is c), c .before .before .pre .place)
 
-threshold-small : (c : tie.After-minus) → natAbs (toZ w64 (8192 * c .before .before .args .j)) ≤ 2 ^ 17
-threshold-small c = subst (λ (z : ℤ). natAbs z ≤ 2 ^ 17) (sym (threshold-is c)) (omega (arith, c .before .before .pre .1 .1))
-
-of-count-requires : tie.Need-of-count-requires
-of-count-requires c κs = search needs
+-- A_j − C_j
+rest-size : (c : tie.After-minus) → natAbs (c .minus .result .0) ≤ 2 ^ 21 + 2 ^ 17
+rest-size c =
+    let o = c .before in
+    omega (arith, ap natAbs (c .minus .ensures), abs-minus (o .before .over .result .0) (o .of .result .0), o .before .over .ensures .size, threshold-size o)
 
 minus-requires : tie.Need-minus-requires
-minus-requires c κs = (omega (arith, c .before .pre .0 .at-most), omega (arith, count-small c))
-
-mul-t7 : tie.Need-mul-t7
-mul-t7 c = search needs
-
-cast-t8 : tie.Need-cast-t8
-cast-t8 c = search needs
+minus-requires c κs = record { first = omega (arith, c .before .over .ensures .size); second = omega (arith, threshold-size c) }
 
 minus-requires-2 : tie.Need-minus-requires-2
-minus-requires-2 c κs = (omega (arith, active-small c), omega (arith, threshold-small c))
-
-minus-requires-3 : tie.Need-minus-requires-3
-minus-requires-3 c κs = (
-  subst Small (sym (c .minus2 .ensures)) (omega (arith, abs-minus (c .before .minus .result .0) (toZ w64 (8192 * c .before .before .before .args .j)), active-small (c .before), threshold-small (c .before))),
-  omega arith,
-)
+minus-requires-2 c κs = record { first = omega (arith, rest-size c); second = omega (arith, c .before .before .before .pre .margin) }
 
 returns : tie.Need-returns
 returns c =
-    let m = c .before .before in
-    c .minus3 .ensures
-    ∙ ap (λ (z : ℤ). z -ℤ pos 21635)
-    (c .before .minus2 .ensures
-    ∙ ap₂ _-ℤ_ (m .minus .ensures ∙ ap (λ (z : ℤ). m .before .before .args .power .0 -ℤ z) (m .before .of-count .ensures)) (threshold-is m))
+    let m = c .before in
+    let o = m .before .before in
+    let M = o .before .args .margin .0 in
+    record {
+      is = c .minus2 .ensures ∙ ap (λ (z : ℤ). z -ℤ M) (m .minus .ensures ∙ ap₂ _-ℤ_ (o .over .ensures .is) (threshold-is (m .before)));
+      size = omega (arith, ap natAbs (c .minus2 .ensures), abs-minus (m .minus .result .0) M, rest-size m, o .before .pre .margin);
+    }
 
 pub excess-spec : {M : Type 1} → statement M
 excess-spec =
     tie.close
     (tie.spec
-    of-count-requires
+    (λ c. search needs)
+    (λ c. search needs)
+    (λ c κs. search needs)
+    (λ c κs. search needs)
     minus-requires
-    mul-t7
-    cast-t8
     minus-requires-2
-    minus-requires-3
     returns)

@@ -49,7 +49,7 @@ follow-requires c κs =
     let p = c .before in
     let b = p .before .before .before .before .before .before .args .bytes .now in
     let e = p .samples-part .ensures in
-    (at-rate (p .before .before), (part-sound b .0 (subst (λ (l : List ℕ). 0 < length l) e (pos-of-ne-zero (c .if1 .left))), e))
+    record { usable = at-rate (p .before .before); fits = part-sound b .0 (subst (λ (l : List ℕ). 0 < length l) e (pos-of-ne-zero (c .if1 .left))); part-is = e }
 
 enum-told : tie.Need-enum-told
 enum-told c = search needs

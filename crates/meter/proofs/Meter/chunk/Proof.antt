@@ -31,8 +31,8 @@ returns c =
     ∙ refusal 3 (chunkRules (s .self) (s .xs .now)) _ _ (omega arith)
     (past 2 (impossible (s .self)) _ (at-rate (c .before .before .before) .possible-one) (here 3 (longChunk (s .xs .now)) _ (lt-ltb _ _ (c .before .if1 .taken))))
 
-take-requires : tie.Need-take-requires
-take-requires c κs = ready _ _ _ (at-rate (c .before .before)) (c .if1 .left)
+feed-requires : tie.Need-feed-requires
+feed-requires c κs = ready _ _ _ (at-rate (c .before .before)) (c .if1 .left)
 
 enum-told : tie.Need-enum-told
 enum-told c = search needs
@@ -44,7 +44,7 @@ returns-2 : tie.Need-returns-2
 unfolding chunkCall chunkRules longChunk takenBy
 returns-2 c =
     let s = c .before .before .before .before .before .before .args in
-    c .take .ensures
+    c .feed .ensures
     ∙ beyond 3 (longChunk (s .xs .now)) _ _ _ (le-ltb _ _ (c .before .if1 .left))
     ∙ beyond 2 (impossible (s .self)) _ _ _ (at-rate (c .before .before .before) .possible-one)
 
@@ -64,7 +64,7 @@ chunk-spec =
     enum-known-rate
     refused-requires
     returns
-    take-requires
+    feed-requires
     enum-told
     refused-requires-2
     returns-2

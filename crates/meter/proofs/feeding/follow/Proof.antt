@@ -4,12 +4,12 @@ use borrow.Author.Tests.{eq-eqb, ne-eqb}
 use mathlib.Core.Bool.{not}
 use mathlib.Core.List.{List}
 use mathlib.Core.Path.{_≡_, sym, ap, _∙_}
-use Prim.Native.Nat.{ℕ, _*_, _/_, _-_}
+use Prim.Native.Nat.{ℕ, _*_, _/_, _-_, _≤_}
 use native.Mathlib.Omega.{arith}
 use lib.ListN.{length, take}
 use Rattle.block.specs.Block.{rateCode, count, samples, samplesAt}
 use Rattle.block.specs.Refusals.{wrongRate}
-use Rattle.block.proofs.Laws.{sound-length, sound-count, part-length, part-reads, samples-length}
+use Rattle.block.proofs.Laws.{sound-count, part-length, part-reads, samples-length, decoded-length, decoded-first}
 use Rattle.rate.proofs.Laws.{named-code}
 use Rattle.meter.specs.Inner.{takenBy}
 use Rattle.meter.specs.Refusals.{wrongPlace}
@@ -19,33 +19,46 @@ use Rattle.meter.proofs.feeding.follow.Statement.{statement}
 use Rattle.meter.proofs.feeding.follow.Tie as tie
 
 code-is : (s : tie.Start) → s .args .rate .code ≡ s .args .meter .setting .code
-code-is s = named-code _ _ (s .pre .0 .rate-is)
+code-is s = named-code _ _ (s .pre .usable .rate-is)
 
 -- the part's samples number as the block's count says
 half : (s : tie.Start) → length (s .args .part .now) / 2 ≡ count (s .args .bytes .now)
 half s =
-    let e : length (s .args .part .now) ≡ 2 * count (s .args .bytes .now) = ap length (s .pre .1 .1) ∙ part-length _ (s .pre .1 .0) in
+    let e : length (s .args .part .now) ≡ 2 * count (s .args .bytes .now) = ap length (s .pre .part-is) ∙ part-length _ (s .pre .fits) in
     omega arith
 
 rate-read : (c : tie.Else1) → rateCode (c .before .before .before .before .before .args .bytes .now) ≡ c .before .before .before .before .before .args .meter .setting .code
 rate-read c = sym (c .before .before .rate-code .ensures) ∙ c .if1 .left ∙ code-is (c .before .before .before .before .before)
 
+-- where the samples were decoded: the place where the block's number of samples before had been read, and the start
+abbrev placed : tie.After-decode → tie.Else2
+placed c = c .before .before
+
+abbrev start : tie.After-decode → tie.Start
+start c = placed c .before .before .before .before .before .before .before .before
+
+-- the array holds as many as any block has
+room : (c : tie.After-decode) → length (c .decode .last .1 .0) ≡ 248
+room c = ap length (c .decode .ensures) ∙ decoded-length _ _
+
+fits : (c : tie.After-decode) → length (start c .args .part .now) / 2 ≤ 248
+fits c = let s = start c in omega (arith, half s, sound-count _ (s .pre .fits) .1)
+
 -- what was decoded is the block's samples
-read : (c : tie.After-decoded)
-    → take (length (c .before .before .before .before .before .before .before .before .before .args .part .now) / 2 - 0) (c .decoded .result)
-    ≡ samples (c .before .before .before .before .before .before .before .before .before .args .bytes .now)
+read : (c : tie.After-decode) → take (length (start c .args .part .now) / 2 - 0) (c .decode .last .1 .0) ≡ samples (start c .args .bytes .now)
 read c =
-    let s = c .before .before .before .before .before .before .before .before .before in
+    let s = start c in
     let p = s .args .part .now in
     let z : length p / 2 - 0 ≡ length p / 2 = omega arith in
-    ap (λ (n : ℕ). take n (c .decoded .result)) z
-    ∙ c .decoded .ensures
+    ap (λ (n : ℕ). take n (c .decode .last .1 .0)) z
+    ∙ ap (take (length p / 2)) (c .decode .ensures)
+    ∙ decoded-first p _ (fits c)
     ∙ ap (samplesAt p 0) (half s)
-    ∙ ap (λ (l : List ℕ). samplesAt l 0 (count (s .args .bytes .now))) (s .pre .1 .1)
-    ∙ part-reads (s .args .bytes .now) (s .pre .1 .0)
+    ∙ ap (λ (l : List ℕ). samplesAt l 0 (count (s .args .bytes .now))) (s .pre .part-is)
+    ∙ part-reads (s .args .bytes .now) (s .pre .fits)
 
 rate-code-requires : tie.Need-rate-code-requires
-rate-code-requires c κs = sound-length _ (c .before .before .pre .1 .0)
+rate-code-requires c κs = search needs
 
 refused-requires : tie.Need-refused-requires
 refused-requires c κs = search needs
@@ -56,10 +69,13 @@ returns c =
     let i = c .before in
     let s = i .before .before .before .before .before in
     c .refused .ensures
-    ∙ by-rate _ _ (s .pre .0 .possible-one) (s .pre .1 .0) (ap not (ne-eqb _ _ (λ e. i .if1 .taken (i .before .before .rate-code .ensures ∙ e ∙ sym (code-is s)))))
+    ∙ by-rate _ _ (s .pre .usable .possible-one) (s .pre .fits) (ap not (ne-eqb _ _ (λ e. i .if1 .taken (i .before .before .rate-code .ensures ∙ e ∙ sym (code-is s)))))
 
 before-requires : tie.Need-before-requires
-before-requires c κs = sound-length _ (c .before .before .before .before .before .pre .1 .0)
+before-requires c κs = search needs
+
+count-requires : tie.Need-count-requires
+count-requires c κs = search needs
 
 refused-requires-2 : tie.Need-refused-requires-2
 refused-requires-2 c κs = search needs
@@ -68,43 +84,45 @@ returns-2 : tie.Need-returns-2
 unfolding wrongPlace
 returns-2 c =
     let i = c .before in
-    let e1 = i .before .before .before in
-    let s = e1 .before .before .before .before .before in
+    let n = i .before in
+    let b = n .before in
+    let s = b .before .before .before .before .before .before in
     c .refused2 .ensures
-    ∙ by-place _ _ (s .pre .0 .possible-one) (s .pre .1 .0) (rate-read e1) (ap not (ne-eqb _ _ (λ e. i .if2 .taken (i .before .before .before2 .ensures ∙ e))))
+    ∙ by-place _ _ (s .pre .usable .possible-one) (s .pre .fits) (rate-read (b .before)) (ap not (ne-eqb _ _ (λ e. i .if2 .taken (b .before2 .ensures ∙ e ∙ sym (n .count .ensures)))))
 
-decoded-requires : tie.Need-decoded-requires
-decoded-requires c κs = let s = c .before .before .before .before .before .before .before .before in
-    omega (arith, half s, sound-count _ (s .pre .1 .0) .1, ap length (s .pre .1 .1) ∙ part-length _ (s .pre .1 .0))
+slice-aggregate-decode : tie.Need-slice-aggregate-decode
+slice-aggregate-decode c = search needs
 
-sub-take : tie.Need-sub-take
-sub-take c = search needs
+decode-requires : tie.Need-decode-requires
+decode-requires c κs = search needs
 
-part-take-start : tie.Need-part-take-start
-part-take-start c = search needs
+sub-feed : tie.Need-sub-feed
+sub-feed c = search needs
 
-part-take-end : tie.Need-part-take-end
-part-take-end c =
-    let s = c .before .before .before .before .before .before .before .before .before .before in
-    omega (arith, half s, sound-count _ (s .pre .1 .0) .1, c .before .decoded .ok)
+part-feed-start : tie.Need-part-feed-start
+part-feed-start c = search needs
 
-take-requires : tie.Need-take-requires
-take-requires c κs =
-    let d = c .before .before in
-    let s = d .before .before .before .before .before .before .before .before .before in
-    ready _ _ _ (s .pre .0)
-    (omega (arith, ap length (read d) ∙ samples-length (s .args .bytes .now), sound-count _ (s .pre .1 .0) .1))
+part-feed-end : tie.Need-part-feed-end
+part-feed-end c = let d = c .before .before in omega (arith, fits d, room d)
+
+feed-requires : tie.Need-feed-requires
+feed-requires c κs =
+    let d = c .before .before .before in
+    let s = start d in
+    ready _ _ _ (s .pre .usable)
+    (omega (arith, ap length (read d) ∙ samples-length (s .args .bytes .now), sound-count _ (s .pre .fits) .1))
 
 returns-3 : tie.Need-returns-3
 unfolding wrongPlace
 returns-3 c =
-    let d = c .before .before .before in
-    let i = d .before in
-    let e1 = i .before .before .before in
-    let s = e1 .before .before .before .before .before in
-    c .take .ensures
+    let d = c .before .before .before .before in
+    let i = placed d in
+    let n = i .before in
+    let b = n .before in
+    let s = start d in
+    c .feed .ensures
     ∙ ap (takenBy (s .args .meter)) (read d)
-    ∙ taken _ _ (s .pre .0 .possible-one) (s .pre .1 .0) (rate-read e1) (ap not (eq-eqb _ _ (sym (i .before .before .before2 .ensures) ∙ i .if2 .left)))
+    ∙ taken _ _ (s .pre .usable .possible-one) (s .pre .fits) (rate-read (b .before)) (ap not (eq-eqb _ _ (sym (b .before2 .ensures) ∙ i .if2 .left ∙ n .count .ensures)))
 
 pub follow-spec : {M : Type 1} → statement M
 follow-spec =
@@ -114,11 +132,13 @@ follow-spec =
     refused-requires
     returns
     before-requires
+    count-requires
     refused-requires-2
     returns-2
-    decoded-requires
-    sub-take
-    part-take-start
-    part-take-end
-    take-requires
+    slice-aggregate-decode
+    decode-requires
+    sub-feed
+    part-feed-start
+    part-feed-end
+    feed-requires
     returns-3)

@@ -1,28 +1,34 @@
 -- One rule after another; then the rules of the speech, by what the search for a crossing found.
 use borrow.Author.Needs.{needs}
 use borrow.Author.Tests.{ne-eqb, eq-eqb, eqb-false}
-use mathlib.Core.Path.{sym, ap, _∙_}
+use mathlib.Core.Bool.{Bool, true, false}
+use mathlib.Core.Path.{_≡_, sym, ap, _∙_, subst}
+use Prim.Native.Nat.{ℕ}
 use native.Mathlib.Nat.{pos-of-ne-zero}
 use native.Mathlib.Omega.{arith}
-use Rattle.level.specs.Logarithm.{number}
+use lib.Dec.{eqb}
+use Rattle.level.specs.declared.Steps.{Steps}
+use Rattle.level.specs.Types.{twoWords}
+use Rattle.crossing.specs.declared.Found.{Found}
 use Rattle.crossing.specs.declared.Found.the-variants.{At, Below, Above}
-use Rattle.crossing.specs.Found.{said}
-use Rattle.crossing.specs.Inner.{Measured}
+use Rattle.crossing.specs.Inner.FindLevels.{Measured}
+use Rattle.crossing.specs.Searched.{said, searched}
 use Rattle.meter.specs.declared.Meter.{Meter}
-use Rattle.meter.specs.Reports.{noSamples, noSignal, noActivity}
-use Rattle.meter.proofs.Finding.{by-found}
+use Rattle.meter.specs.Reports.{margin, noSamples, noSignal, noActivity}
+use Rattle.meter.specs.Calls.{reportCall}
+use Rattle.meter.proofs.Finding.{handedFor, by-found}
 use Rattle.meter.proofs.Outcome.{Tested, at-12, at-13, at-14}
 use Rattle.meter.proofs.Possible.{possible}
 use Rattle.meter.proofs.reporting.measured.Statement.{statement}
 use Rattle.meter.proofs.reporting.measured.Tie as tie
 
-measured : (m : Meter) → Tested m → Measured (m .state .sums .n) (number (m .state .sums .sq)) (m .state .a)
+measured : (m : Meter) → Tested m → Measured margin (m .state .sums .n .0) (twoWords (m .state .sums .sq)) (m .state .a)
 unfolding noSamples noSignal noActivity
 measured m t =
     let p = possible m (t .passed) in
     record {
+      margin = omega arith;
       n-pos = pos-of-ne-zero (eqb-false _ 0 (t .n-some));
-      n-max = omega (arith, p .n-max);
       sq-pos = pos-of-ne-zero (eqb-false _ 0 (t .sq-some));
       sq-max = omega (arith, p .sq-max, p .n-max);
       counts = record {
@@ -32,22 +38,47 @@ measured m t =
       };
     }
 
-tested : (c : tie.Else3) → Tested (c .before .before .before .before .before .before .before .args .meter)
-unfolding noSamples noSignal noActivity
+-- ---- points of the code
+
+abbrev counted-at : tie.Else3 → tie.After-count
+counted-at c = c .before .before .before .before .before .before
+
+abbrev start-at : tie.After-count → tie.Start
+start-at c = c .before .before .before .before
+
+-- each test that was passed or not, as the definition has it
+n-test : (b : Bool) (c : tie.After-count) → eqb (c .count .result) 0 ≡ b → noSamples (start-at c .args .meter) ≡ b
+unfolding noSamples
+n-test b c e = ap (λ (n : ℕ). eqb n 0) (sym (c .count .ensures)) ∙ e
+
+sq-test : (b : Bool) (c : tie.After-is-zero) → c .is-zero .result ≡ b → noSignal (start-at (c .before .before) .args .meter) ≡ b
+unfolding noSignal
+sq-test b c e = sym (c .is-zero .ensures) ∙ e
+
+a-test : (b : Bool) (c : tie.After-count2) → eqb (c .count2 .result) 0 ≡ b → noActivity (start-at (c .before .before .before .before .before) .args .meter) ≡ b
+unfolding noActivity
+a-test b c e = ap (λ (n : ℕ). eqb n 0) (sym (c .count2 .ensures)) ∙ e
+
+tested : (c : tie.Else3) → Tested (start-at (counted-at c) .args .meter)
 tested c =
+    let z = c .before .before .before in
     record {
-      passed = c .before .before .before .before .before .before .before .pre;
-      n-some = ne-eqb _ 0 (c .before .before .before .if1 .left);
-      sq-some = sym (c .before .before .is-zero .ensures) ∙ c .before .if2 .left;
-      a-some = ne-eqb _ 0 (c .if3 .left);
+      passed = start-at (counted-at c) .pre;
+      n-some = n-test false (counted-at c) (ne-eqb _ 0 (z .before .before .if1 .left));
+      sq-some = sq-test false (z .before) (z .if2 .left);
+      a-some = a-test false (c .before) (ne-eqb _ 0 (c .if3 .left));
     }
+
+count-requires : tie.Need-count-requires
+count-requires c κs = search needs
 
 unreported-requires : tie.Need-unreported-requires
 unreported-requires c κs = search needs
 
 returns : tie.Need-returns
-unfolding noSamples
-returns c = c .unreported .ensures ∙ at-12 _ (c .before .before .before .before .before .pre) (eq-eqb _ 0 (c .before .if1 .taken))
+returns c =
+    let n = c .before .before in
+    c .unreported .ensures ∙ at-12 _ (start-at n .pre) (n-test true n (eq-eqb _ 0 (c .before .if1 .taken)))
 
 is-zero-requires : tie.Need-is-zero-requires
 is-zero-requires c κs = search needs
@@ -56,27 +87,44 @@ unreported-requires-2 : tie.Need-unreported-requires-2
 unreported-requires-2 c κs = search needs
 
 returns-2 : tie.Need-returns-2
-unfolding noSamples noSignal
 returns-2 c =
-    c .unreported2 .ensures
-    ∙ at-13 _ (c .before .before .before .before .before .before .before .pre) (ne-eqb _ 0 (c .before .before .before .if1 .left))
-    (sym (c .before .before .is-zero .ensures) ∙ c .before .if2 .taken)
+    let z = c .before .before in
+    let n = z .before .before in
+    c .unreported2 .ensures ∙ at-13 _ (start-at n .pre) (n-test false n (ne-eqb _ 0 (z .before .if1 .left))) (sq-test true z (c .before .if2 .taken))
 
-array-read-if3 : tie.Need-array-read-if3
-array-read-if3 c = search needs
+array-copy-out-count : tie.Need-array-copy-out-count
+array-copy-out-count c = search needs
+
+count-requires-2 : tie.Need-count-requires-2
+count-requires-2 c κs = search needs
 
 unreported-requires-3 : tie.Need-unreported-requires-3
 unreported-requires-3 c κs = search needs
 
 returns-3 : tie.Need-returns-3
-unfolding noSamples noSignal noActivity
 returns-3 c =
+    let t = c .before .before in
+    let e = t .before .before in
+    let z = e .before in
+    let n = z .before .before in
     c .unreported3 .ensures
-    ∙ at-14 _ (c .before .before .before .before .before .before .before .before .pre) (ne-eqb _ 0 (c .before .before .before .before .if1 .left))
-    (sym (c .before .before .before .is-zero .ensures) ∙ c .before .before .if2 .left) (eq-eqb _ 0 (c .before .if3 .taken))
+    ∙ at-14 _ (start-at n .pre) (n-test false n (ne-eqb _ 0 (z .before .if1 .left))) (sq-test false z (e .if2 .left)) (a-test true t (eq-eqb _ 0 (c .before .if3 .taken)))
+
+of-requires : tie.Need-of-requires
+of-requires c κs = search needs
 
 find-levels-requires : tie.Need-find-levels-requires
-find-levels-requires c κs = measured _ (tested (c .before))
+find-levels-requires c κs =
+    let m = start-at (counted-at (c .before)) .args .meter in
+    subst (λ (M : Steps). Measured (M .0) (m .state .sums .n .0) (twoWords (m .state .sums .sq)) (m .state .a)) (sym (c .of .ensures)) (measured m (tested (c .before)))
+
+-- what was found, at the margin, is what the report call hands back
+handed : (c : tie.After-find-levels) (f : Found) → c .find-levels .result ≡ f
+    → handedFor (said f) (start-at (counted-at (c .before .before)) .args .meter) ≡ reportCall (start-at (counted-at (c .before .before)) .args .meter)
+handed c f e =
+    let m = start-at (counted-at (c .before .before)) .args .meter in
+    by-found m (tested (c .before .before)) f
+    (ap said (sym e) ∙ c .find-levels .ensures ∙ ap (λ (M : Steps). searched (M .0) (m .state .sums .n .0) (twoWords (m .state .sums .sq)) (m .state .a)) (c .before .of .ensures))
 
 enum-known-levels : tie.Need-enum-known-levels
 enum-known-levels c = search needs
@@ -98,28 +146,31 @@ unreported-requires-5 c κs = search needs
 
 returns-4 : tie.Need-returns-4
 unfolding said
-returns-4 c = c .reported .ensures ∙ by-found _ (tested (c .before .before .before .before .before .before)) (At _) (ap said (sym (c .before .before .levels .given .1)) ∙ c .before .before .before .before .find-levels .ensures)
+returns-4 c = c .reported .ensures ∙ handed (c .before .before .before .before) (At _) (c .before .before .levels .given .1)
 
 returns-5 : tie.Need-returns-5
 unfolding said
-returns-5 c = c .unreported4 .ensures ∙ by-found _ (tested (c .before .before .before .before .before)) Below (ap said (sym (c .before .enum-told .given .1)) ∙ c .before .before .before .find-levels .ensures)
+returns-5 c = c .unreported4 .ensures ∙ handed (c .before .before .before) Below (c .before .enum-told .given .1)
 
 returns-6 : tie.Need-returns-6
 unfolding said
-returns-6 c = c .unreported5 .ensures ∙ by-found _ (tested (c .before .before .before .before .before)) Above (ap said (sym (c .before .enum-told2 .given .1)) ∙ c .before .before .before .find-levels .ensures)
+returns-6 c = c .unreported5 .ensures ∙ handed (c .before .before .before) Above (c .before .enum-told2 .given .1)
 
 pub measured-spec : {M : Type 1} → statement M
 measured-spec =
     tie.close
     (tie.spec
+    count-requires
     unreported-requires
     returns
     is-zero-requires
     unreported-requires-2
     returns-2
-    array-read-if3
+    array-copy-out-count
+    count-requires-2
     unreported-requires-3
     returns-3
+    of-requires
     find-levels-requires
     enum-known-levels
     reported-requires

@@ -1,0 +1,35 @@
+-- An eight-byte number is its two four-byte numbers.
+use mathlib.Core.Path.{ap, _∙_, sym}
+use mathlib.Core.List.{List}
+use Prim.Native.Nat.{ℕ}
+use native.Mathlib.Omega.{arith}
+use Rattle.block.specs.Block.{number}
+use Rattle.block.proofs.Numbers.{eight-bytes, from-place}
+use borrow.Author.Needs.{needs}
+use Rattle.block.proofs.reading.eight_bytes.Statement.{statement}
+use Rattle.block.proofs.reading.eight_bytes.Tie as tie
+
+from-requires : tie.Need-from-requires
+from-requires c κs = search needs
+
+four-requires : tie.Need-four-requires
+four-requires c κs = search needs
+
+four-requires-2 : tie.Need-four-requires-2
+four-requires-2 c κs = search needs
+
+mul-result : tie.Need-mul-result
+mul-result c = search needs
+
+add-result : tie.Need-add-result
+add-result c = search needs
+
+returns : tie.Need-returns
+returns c =
+    let f = c .before .before in
+    let s = f .before .before .args in
+    omega (arith, eight-bytes (f .from .result .now), ap (λ (l : List ℕ). number l 0 8) (f .from .ensures) ∙ from-place (s .bytes .now) (s .at) 8)
+
+pub eight-bytes-spec : {M : Type 1} → statement M
+eight-bytes-spec =
+    tie.close (tie.spec from-requires four-requires four-requires-2 mul-result add-result returns)

@@ -1,0 +1,24 @@
+-- The number at the front of what follows the place.
+use mathlib.Core.Path.{ap, _∙_}
+use mathlib.Core.List.{List}
+use Prim.Native.Nat.{ℕ}
+use Rattle.block.specs.Block.{number}
+use Rattle.block.proofs.Numbers.{from-place}
+use borrow.Author.Needs.{needs}
+use Rattle.block.proofs.reading.two_bytes.Statement.{statement}
+use Rattle.block.proofs.reading.two_bytes.Tie as tie
+
+from-requires : tie.Need-from-requires
+from-requires c κs = search needs
+
+two-requires : tie.Need-two-requires
+two-requires c κs = search needs
+
+cast-result : tie.Need-cast-result
+cast-result c = search needs
+
+returns : tie.Need-returns
+returns c = c .two .ensures .0 ∙ ap (λ (l : List ℕ). number l 0 2) (c .before .from .ensures) ∙ from-place _ _ 2
+
+pub two-bytes-spec : {M : Type 1} → statement M
+two-bytes-spec = tie.close (tie.spec from-requires two-requires cast-result returns)

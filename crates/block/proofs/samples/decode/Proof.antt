@@ -1,0 +1,95 @@
+-- The invariant: the first j places hold the first j samples, and the others what they held.
+use mathlib.Core.List.{List, _++_}
+use mathlib.Core.Path.{_≡_, refl, ap, _∙_}
+use Prim.Native.Nat.{ℕ, _+_, _-_, _*_, _/_, _≤_, _<_, min}
+use native.Mathlib.Omega.{arith}
+use lib.IntN.{ℤ}
+use lib.ListN.{length, drop, set, length-set}
+use mir.Syntax.{w16}
+use mir.Val.{SFits, toZ, ofZ}
+use mir.Facts.{toZ-ofZ}
+use Rattle.block.specs.Block.{number, signed, samplesAt, decodedInto}
+use Rattle.block.proofs.Decoding.{one-more}
+use borrow.Author.Needs.{needs}
+use Rattle.block.proofs.samples.decode.Statement.{statement}
+use Rattle.block.proofs.samples.decode.Tie as tie
+
+record Inv (bytes : List ℕ) (before : List ℤ) (count : ℕ) (samples : List ℤ) (j : ℕ) : Type 0 where
+  below : j ≤ count
+  room : length samples ≡ length before
+  so-far : samples ≡ samplesAt bytes 0 j ++ drop j before
+
+turn : (bytes : List ℕ) (before : List ℤ) (count : ℕ) (samples : List ℤ) (j : ℕ) (x : ℤ)
+    → j < count → count ≤ length before → Inv bytes before count samples j → SFits w16 x → x ≡ signed (number bytes (2 * j) 2)
+    → Inv bytes before count (set samples j (toZ w16 (ofZ w16 x))) (j + 1)
+turn bytes before count samples j x l m inv f e =
+    record {
+      below = omega arith;
+      room = length-set samples j _ ∙ inv .room;
+      so-far = ap (λ (s : List ℤ). set s j (toZ w16 (ofZ w16 x))) (inv .so-far) ∙ one-more bytes before j _ (omega arith) (toZ-ofZ f ∙ e);
+    }
+
+abbrev Inv-loop : tie.InvT-loop
+Inv-loop bytes samples₀ count j₀ samples j = Inv bytes samples₀ count samples j
+
+abbrev μ-loop : tie.MeasureT-loop
+μ-loop bytes samples₀ count j₀ samples j = count - j
+
+least-requires : tie.Need-least-requires Inv-loop μ-loop
+least-requires c κs = search needs
+
+loop-holds : tie.Need-loop-holds Inv-loop μ-loop
+unfolding samplesAt
+loop-holds c = record { below = omega arith; room = refl; so-far = refl }
+
+mul-sample : tie.Need-mul-sample Inv-loop μ-loop
+mul-sample c = search needs
+
+sample-requires : tie.Need-sample-requires Inv-loop μ-loop
+sample-requires c κs = search needs
+
+mul-t11 : tie.Need-mul-t11 Inv-loop μ-loop
+mul-t11 c = search needs
+
+slice-set-from-samples : tie.Need-slice-set-from-samples Inv-loop μ-loop
+slice-set-from-samples c = let l = c .before .before in omega (arith, l .loop .inv .room, l .before .least .ensures)
+
+add-j : tie.Need-add-j Inv-loop μ-loop
+add-j c = search needs
+
+loop-less : tie.Need-loop-less Inv-loop μ-loop
+loop-less c = search needs
+
+loop-again : tie.Need-loop-again Inv-loop μ-loop
+loop-again c =
+    let l = c .before .before in
+    turn _ _ _ (l .loop .samples) (l .loop .j) (c .sample .result) (c .before .loop-test .taken) (omega (arith, l .before .least .ensures)) (l .loop .inv) (record { sfits = c .sample .ok }) (c .sample .ensures)
+
+same-length : tie.Need-same-length Inv-loop μ-loop
+same-length c = c .before .loop .inv .room
+
+returns : tie.Need-returns Inv-loop μ-loop
+unfolding decodedInto
+returns c =
+    let l = c .before in
+    let s = l .before .before .before .args in
+    let e : l .loop .j ≡ min (length (s .bytes .now) / 2) (length (s .samples .now)) = omega (arith, l .loop .inv .below, l .before .least .ensures) in
+    l .loop .inv .so-far ∙ ap (λ (n : ℕ). samplesAt (s .bytes .now) 0 n ++ drop n (s .samples .now)) e
+
+pub decode-spec : {M : Type 1} → statement M
+decode-spec =
+    tie.close
+    (tie.spec
+    Inv-loop
+    μ-loop
+    least-requires
+    loop-holds
+    mul-sample
+    sample-requires
+    mul-t11
+    slice-set-from-samples
+    add-j
+    loop-less
+    loop-again
+    same-length
+    returns)

@@ -1,0 +1,14 @@
+-- The test of the word is that of the integer.
+use borrow.Author.Needs.{needs}
+use mathlib.Core.Path.{ap}
+use lib.IntN.{ℤ, pos}
+use lib.Signed.{ltZ}
+use Rattle.crossing.proofs.Sizes.{word}
+use Rattle.crossing.proofs.steps.below_zero.Statement.{statement}
+use Rattle.crossing.proofs.steps.below_zero.Tie as tie
+
+returns : tie.Need-returns
+returns c = ap (λ (z : ℤ). ltZ z (pos 0)) (word (c .value .ok) (c .value .ensures))
+
+pub below-zero-spec : {M : Type 1} → statement M
+below-zero-spec = tie.close (tie.spec (λ c κs. search needs) returns)

@@ -1,0 +1,20 @@
+-- The search for the lowest crossing.
+use mathlib.Core.List.{List}
+use mathlib.Core.Option.{Option, none, some}
+use Prim.Native.Nat.{ℕ}
+use lib.IntN.{ℤ}
+use Rattle.level.specs.declared.Samples.{Samples}
+use Rattle.crossing.specs.declared.lowest.Place.{Place}
+use Rattle.crossing.specs.declared.lowest.Place.the-variants.{At, Nowhere}
+use Rattle.crossing.specs.Inner.FindLevels.{Falling}
+use Rattle.crossing.specs.Inner.Steps.{InRange}
+
+-- what is searched
+pub record Searchable (M S : ℤ) (a : List Samples) : Type 0 where
+  pub margin : InRange M
+  pub power : InRange S
+  pub counts : Falling a
+
+unfoldable pub placeOf : Place → Option ℕ
+placeOf (At j) = some j
+placeOf Nowhere = none

@@ -1,0 +1,67 @@
+-- The levels at a crossing, and what the search for one finds: document 01, "The report" and "Why a call is refused". M is the margin.
+use mathlib.Core.Bool.{cond}
+use mathlib.Core.List.{List}
+use mathlib.Core.Option.{Option, none, some}
+use Prim.Native.Nat.{ℕ}
+use lib.IntN.{ℤ, pos, _-ℤ_}
+use lib.Signed.{ltZ}
+use Rattle.level.specs.Logarithm.{lev}
+use Rattle.level.specs.Types.{stepsOf}
+use Rattle.level.specs.declared.Samples.{Samples}
+use Rattle.crossing.specs.declared.Levels.{Levels}
+use Rattle.crossing.specs.declared.Found.{Found}
+use Rattle.crossing.specs.declared.Found.the-variants.{At, Below, Above}
+use Rattle.crossing.specs.Levels.{longTerm, excess}
+use Rattle.crossing.specs.Crossing.{crossing, lowerOf, upperOf, activeLevel}
+
+-- the levels at a crossing j: C = A − M, F = L − A
+unfoldable pub levelsAt : (M : ℤ) (n sq : ℕ) (a : List Samples) (j : ℕ) → Levels
+levelsAt M n sq a j =
+    let S = pos (lev sq) in
+    let L = longTerm S n in
+    let A = activeLevel M S a j in
+    record {
+      level = stepsOf L;
+      active = stepsOf A;
+      threshold = stepsOf (A -ℤ M);
+      factor = stepsOf (L -ℤ A);
+      lower = lowerOf M S a j;
+      upper = upperOf j;
+    }
+
+-- no levels: all zero
+unfoldable pub noLevels : Levels
+noLevels =
+    record {
+      level = stepsOf (pos 0);
+      active = stepsOf (pos 0);
+      threshold = stepsOf (pos 0);
+      factor = stepsOf (pos 0);
+      lower = 0;
+      upper = 0;
+    }
+
+-- the crossing of a measurement, and d_0
+unfoldable pub crossingIn : (M : ℤ) (sq : ℕ) (a : List Samples) → Option ℕ
+crossingIn M sq a = crossing M (pos (lev sq)) a
+
+unfoldable pub firstExcess : (M : ℤ) (sq : ℕ) (a : List Samples) → ℤ
+firstExcess M sq a = excess M (pos (lev sq)) a 0
+
+-- a number, 0 where there are levels, and the levels
+pub record Searched : Type 0 where
+  pub number : ℕ
+  pub levels : Levels
+
+unfoldable pub levelsFor : (M : ℤ) (n sq : ℕ) (a : List Samples) → Option ℕ → Searched
+levelsFor M n sq a none = record { number = cond (ltZ (firstExcess M sq a) (pos 0)) 15 16; levels = noLevels }
+levelsFor M n sq a (some j) = record { number = 0; levels = levelsAt M n sq a j }
+
+unfoldable pub searched : (M : ℤ) (n sq : ℕ) (a : List Samples) → Searched
+searched M n sq a = levelsFor M n sq a (crossingIn M sq a)
+
+-- what each case of an answer says
+unfoldable pub said : Found → Searched
+said (At l) = record { number = 0; levels = l }
+said Below = record { number = 15; levels = noLevels }
+said Above = record { number = 16; levels = noLevels }

@@ -1,0 +1,91 @@
+-- A meter that refusal 2 lets pass is within the bounds of a sample.
+use borrow.Author.Needs.{needs}
+use borrow.Author.Tests.{lt-ltb, le-ltb}
+use mathlib.Core.List.{[], _∷_}
+use mathlib.Core.Path.{sym, ap, ap₂, _∙_, subst}
+use Prim.Native.Nat.{ℕ, _+_, _^_, _≤_, _<_}
+use native.Mathlib.Omega.{arith}
+use lib.ListN.{length, getD}
+use Rattle.level.specs.Types.{thresholds}
+use Rattle.meter.proofs.Handing.{refusal, acceptance}
+use Rattle.meter.proofs.Possible.{Possible, possible}
+use Rattle.meter.specs.Calls.{handedBy, countingOf, afterSamples}
+use Rattle.meter.specs.Inner.{takenBy, refusedWith}
+use Rattle.meter.specs.Refusals.{tooMany}
+use Rattle.setting.specs.Settings.{kOf, iOf}
+use Rattle.meter.specs.declared.Meter.{Meter}
+use Rattle.rate.proofs.Laws.{row-keeps}
+use Rattle.refusal.proofs.Laws.{here, past, none}
+use Rattle.sample.specs.declared.Counting.{Counting}
+use Rattle.sample.specs.Envelope.{smoothing}
+use Rattle.sample.specs.Sample.{mostSamples, stateAfter}
+use Rattle.sample.specs.declared.State.{State}
+use Rattle.sample.specs.StateAfter.{BoundedSums, Within}
+use Rattle.meter.proofs.feeding.feed.Statement.{statement}
+use Rattle.meter.proofs.feeding.feed.Tie as tie
+
+bounded : (m : Meter) → Possible m → BoundedSums (m .state .sums)
+bounded m p =
+    record {
+      n-max = p .n-max;
+      s-max = p .s-max;
+      sq-max = omega (arith, p .sq-max);
+      p-max = omega (arith, p .p-max);
+      q-max = omega (arith, p .q-max);
+    }
+
+k-small : (m : Meter) → Possible m → countingOf (m .setting) .k ≤ smoothing
+unfolding countingOf kOf
+k-small m p = row-keeps (m .setting .code) (p .named) .k-high
+
+held : (m : Meter) → Possible m → (j : ℕ) → j < thresholds → getD (m .state .h) j 0 ≤ countingOf (m .setting) .i
+unfolding countingOf
+held m p j l = p .h-max j l
+
+count-requires : tie.Need-count-requires
+count-requires c κs = search needs
+
+add-total : tie.Need-add-total
+add-total c =
+    let s = c .before in
+    let p = possible (s .args .meter) (s .pre .possible) in
+    let h : c .count .result + length (s .args .xs .now) < 2 ^ 64 = omega (arith, c .count .ensures, p .n-max, s .pre .few) in
+    record { fits = h }
+
+-- the total, as the definition has it
+total : (P : ℕ → Type 0) (c : tie.After-count) → P (c .count .result + length (c .before .args .xs .now)) → P (c .before .args .meter .state .sums .n .0 + length (c .before .args .xs .now))
+total P c h = subst (λ (n : ℕ). P (n + length (c .before .args .xs .now))) (c .count .ensures) h
+
+refused-requires : tie.Need-refused-requires
+refused-requires c κs = search needs
+
+returns : tie.Need-returns
+unfolding takenBy tooMany
+returns c = let s = c .before .before .before .args in c .refused .ensures ∙ refusal 11 ((11, tooMany (s .meter) (length (s .xs .now))) ∷ []) _ _ (omega arith) (here 11 _ [] (lt-ltb _ _ (total (λ t. mostSamples < t) (c .before .before) (c .before .if1 .taken))))
+
+after-requires : tie.Need-after-requires
+after-requires c κs =
+    let s = c .before .before .before in
+    let m = s .args .meter in
+    let p = possible m (s .pre .possible) in
+    subst (λ (by : Counting). Within by (length (s .args .xs .now)) (m .state)) (s .pre .by-is)
+    (record {
+      sums = bounded m p;
+      a-max = p .a-max;
+      h-max = held m p;
+      k-max = k-small m p;
+      room = total (λ t. t ≤ mostSamples) (c .before .before) (c .before .if1 .left);
+    })
+
+returns-2 : tie.Need-returns-2
+unfolding takenBy tooMany handedBy afterSamples
+returns-2 c =
+    let s = c .before .before .before .before in
+    let m = s .args .meter in
+    let xs = s .args .xs .now in
+    ap (λ (st : State). refusedWith 0 (record { setting = m .setting; state = st }))
+    (c .after .ensures ∙ ap (λ (by : Counting). stateAfter by (m .state) xs) (sym (s .pre .by-is)))
+    ∙ acceptance ((11, tooMany m (length xs)) ∷ []) (afterSamples m xs) m (past 11 (tooMany m (length xs)) [] (le-ltb _ _ (total (λ t. t ≤ mostSamples) (c .before .before .before) (c .before .before .if1 .left))) none)
+
+pub feed-spec : {M : Type 1} → statement M
+feed-spec = tie.close (tie.spec count-requires add-total refused-requires returns after-requires returns-2)

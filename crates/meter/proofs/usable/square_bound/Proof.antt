@@ -1,0 +1,19 @@
+-- n·2^30 split where the low word ends.
+use borrow.Author.Needs.{needs}
+use mathlib.Core.Path.{_≡_}
+use Prim.Native.Nat.{ℕ, _+_, _*_, _/_, _%_, _^_}
+use native.Mathlib.Omega.{arith}
+use Rattle.meter.proofs.usable.square_bound.Statement.{statement}
+use Rattle.meter.proofs.usable.square_bound.Tie as tie
+
+parts : (n : ℕ) → n / 2 ^ 34 * 2 ^ 64 + n % 2 ^ 34 * 2 ^ 30 ≡ n * 2 ^ 30
+parts n = omega arith
+
+mul-t4 : tie.Need-mul-t4
+mul-t4 c = search needs
+
+returns : tie.Need-returns
+returns c = parts _
+
+pub square-bound-spec : {M : Type 1} → statement M
+square-bound-spec = tie.close (tie.spec mul-t4 returns)
