@@ -5,7 +5,6 @@ use mathlib.Core.List.{List, [], _∷_}
 use mathlib.Core.Path.{_≡_, refl, sym, _∙_, subst}
 use Prim.Native.Nat.{ℕ, _+_, _*_, _^_, _≤_, _<_}
 use native.Mathlib.Omega.{arith}
-use Rattle.level.specs.Logarithm.{lev}
 use Rattle.level.specs.Types.{thresholds, activity, twoWords}
 use Rattle.rate.specs.Rates.{rowOf}
 use Rattle.setting.specs.declared.Setting.{Setting}
@@ -14,6 +13,7 @@ use Rattle.sample.specs.Envelope.{threshold}
 use Rattle.crossing.proofs.Bounds.{Crossed, Bounded, bounded}
 use Rattle.meter.specs.declared.Meter.{Meter}
 use Rattle.meter.specs.declared.Report.{Report}
+use Rattle.meter.specs.Answered.{powerOf}
 use Rattle.meter.specs.Calls.{openCall, reportCall}
 use Rattle.meter.specs.Reports.{margin}
 use Rattle.meter.proofs.Laws.{Levels, with-levels, crossing-of}
@@ -43,14 +43,14 @@ start-code c = refl
 -- ---- the levels
 
 module _ (m : Meter) (e : E) (g : Good m e) (r : Report) (L : Levels m r) where
-  cross : Crossed margin (lev (twoWords (m .state .sums .sq))) (m .state .a) (L .j)
+  cross : Crossed margin (powerOf m) (m .state .a) (L .j)
   cross = crossing-of m (good-possible m e g) (L .j) (L .used .crossing)
 
   bounds : Bounded margin (twoWords (m .state .sums .sq)) (m .state .a) (L .j) (countAt e (threshold (cross .i))) (countAt e (threshold (L .j) + rowOf (e .code) .d))
   bounds =
       let at = L .used .crossing .place in
       let below : cross .i < thresholds = omega (arith, cross .reach) in
-      bounded margin (twoWords (m .state .sums .sq)) (m .state .a) (L .j) _ _ (omega arith) (L .sq-pos) (omega (arith, g .tied .squares, g .few)) cross
+      bounded margin (twoWords (m .state .sums .sq)) (m .state .a) (L .j) _ _ refl (L .sq-pos) (omega (arith, g .tied .squares, g .few)) cross
       (omega (arith, g .tied .each (cross .i) below .few, g .few)) (g .tied .each (cross .i) below .high .count) (g .tied .each (L .j) at .low .count)
 
   pub level-bounds : LevelBounds r e (rowOf (e .code) .d)

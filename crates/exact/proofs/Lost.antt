@@ -84,7 +84,7 @@ grown c (x ∷ xs) m =
     }
 
 grown-exact : (xs : List ℤ) (e : E) → takeAll e xs .sq ≡ e .sq + sumOfSquares xs
-unfolding takeOneAll takeOne sumOfSquares
+unfolding takeAll takeOne sumOfSquares
 grown-exact [] e = omega arith
 grown-exact (x ∷ xs) e = omega (arith, grown-exact xs (takeOne e x))
 

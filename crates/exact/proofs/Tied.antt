@@ -38,22 +38,22 @@ by e = record { k = e .K; i = e .I }
 -- ---- what E keeps
 
 pub same-code : (xs : List ℤ) (e : E) → takeAll e xs .code ≡ e .code
-unfolding takeOneAll takeOne
+unfolding takeAll takeOne
 same-code [] e = refl
 same-code (x ∷ xs) e = same-code xs (takeOne e x)
 
 pub same-K : (xs : List ℤ) (e : E) → takeAll e xs .K ≡ e .K
-unfolding takeOneAll takeOne
+unfolding takeAll takeOne
 same-K [] e = refl
 same-K (x ∷ xs) e = same-K xs (takeOne e x)
 
 pub same-I : (xs : List ℤ) (e : E) → takeAll e xs .I ≡ e .I
-unfolding takeOneAll takeOne
+unfolding takeAll takeOne
 same-I [] e = refl
 same-I (x ∷ xs) e = same-I xs (takeOne e x)
 
 pub total : (xs : List ℤ) (e : E) → takeAll e xs .y ≡ e .y + length xs
-unfolding takeOneAll takeOne
+unfolding takeAll takeOne
 total [] e = omega arith
 total (x ∷ xs) e = omega (arith, total xs (takeOne e x))
 
@@ -191,8 +191,8 @@ module _ (D : ℕ) (m : State) (e : E) (x : ℤ) (k0 : 0 < e .K) (kG : e .K ≤ 
 
 -- samples in order
 pub tied-samples : (D : ℕ) (xs : List ℤ) (m : State) (e : E) → 0 < e .K → e .K ≤ 2 ^ 20 → 2 ^ 21 ≤ D * e .K → AllSamples xs → Tied D m e
-    → Tied D (samples (e .K) (e .I) m xs) (takeAll e xs)
-unfolding samples takeOneAll AllSamples takeOne
+    → Tied D (stateAfter (by e) m xs) (takeAll e xs)
+unfolding stateAfter takeAll AllSamples takeOne
 tied-samples D [] m e k0 kG wide f t = t
 tied-samples D (x ∷ xs) m e k0 kG wide f t =
     tied-samples D xs (stateAfterOne (by e) m x) (takeOne e x) k0 kG wide (f .1) (tied-step D m e x k0 kG wide (small x (f .0)) t)
