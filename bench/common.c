@@ -1,11 +1,12 @@
-/* The driver of every program: reads a rate code (1 byte), the number of rounds (2 bytes) and
- * samples (2 bytes each, at most 32768) from standard input, numbers little-endian, feeds the
- * samples that many rounds over to a fresh meter and prints it. */
+/* The driver of every program: reads a rate code (1 byte), the number of rounds (2 bytes), the
+ * length of a chunk (2 bytes, 0 for 4096) and samples (2 bytes each, at most 32768) from standard
+ * input, numbers little-endian, feeds the samples that many rounds over to a fresh meter, in chunks
+ * of that length, and prints it. */
 #include "meter.h"
 
 #include <stdio.h>
 
-enum { HEADER = 3, MOST_SAMPLES = 32768 };
+enum { HEADER = 5, MOST_SAMPLES = 32768 };
 
 static const struct rate rates[] = {
     {694, 49174, 139},
@@ -19,10 +20,10 @@ static unsigned number_at(const uint8_t *bytes)
 }
 
 /* Feeds all samples once, in chunks. */
-static void feed(struct meter *m, const int16_t *samples, size_t count)
+static void feed(struct meter *m, const int16_t *samples, size_t count, size_t chunk)
 {
-    for (size_t at = 0; at < count; at += CHUNK)
-        meter_take(m, samples + at, count - at < CHUNK ? count - at : CHUNK);
+    for (size_t at = 0; at < count; at += chunk)
+        meter_take(m, samples + at, count - at < chunk ? count - at : chunk);
 }
 
 int main(void)
@@ -30,8 +31,9 @@ int main(void)
     static uint8_t input[HEADER + 2 * MOST_SAMPLES];
     static int16_t samples[MOST_SAMPLES];
     size_t length = fread(input, 1, sizeof input, stdin);
-    if (length < HEADER || input[0] < 1 || input[0] > 3 || getchar() != EOF) {
-        fputs("wanted: a rate code, the rounds and at most 32768 samples\n", stderr);
+    size_t chunk = number_at(input + 3) ? number_at(input + 3) : CHUNK;
+    if (length < HEADER || input[0] < 1 || input[0] > 3 || chunk > CHUNK || getchar() != EOF) {
+        fputs("wanted: a rate code, the rounds, a chunk's length and at most 32768 samples\n", stderr);
         return 1;
     }
     size_t count = (length - HEADER) / 2;
@@ -40,7 +42,7 @@ int main(void)
 
     struct meter *m = meter_open(&rates[input[0] - 1]);
     for (unsigned rounds = number_at(input + 1); rounds > 0; rounds--)
-        feed(m, samples, count);
+        feed(m, samples, count, chunk);
     meter_print(m);
     return 0;
 }

@@ -1,9 +1,10 @@
 #!/usr/bin/env python3
-"""Writes the input of a speed comparison to standard output: signals.py KIND CODE ROUNDS
+"""Writes the input of a speed comparison to standard output: signals.py KIND CODE ROUNDS [CHUNK]
 
 KIND is a key of KINDS below, CODE a rate code (1 to 3), ROUNDS how often a program is to feed the
-samples to its meter. How many samples change the band of the envelope, which is what decides the
-cost of counting by runs, is told on standard error. The same arguments always give the same bytes.
+samples to its meter, CHUNK the length of a chunk, 4096 where it is left out. How many samples
+change the band of the envelope, which is what decides the cost of counting by runs, is told on
+standard error. The same arguments always give the same bytes.
 """
 import math
 import random
@@ -108,8 +109,9 @@ def changes(samples, k):
 
 def main():
     kind, code, rounds = sys.argv[1], int(sys.argv[2]), int(sys.argv[3])
+    chunk = int(sys.argv[4]) if len(sys.argv) > 4 else 4096
     samples = KINDS[kind](random.Random(56), SPEEDS[code])
-    sys.stdout.buffer.write(struct.pack(f"<BH{SAMPLES}h", code, rounds, *samples))
+    sys.stdout.buffer.write(struct.pack(f"<BHH{SAMPLES}h", code, rounds, chunk, *samples))
     first, second = (100 * count / SAMPLES for count in changes(samples, SMOOTHINGS[code]))
     print(f"{first:.3f} % of the samples change the band in the first round, {second:.3f} % in the next", file=sys.stderr)
 

@@ -1,55 +1,86 @@
 // The meter's side of the speed comparison. Standard input holds a rate code of one byte, a number of
-// rounds of two, and then samples, two bytes each: a meter opened at that code takes the samples so many
-// times over, in chunks of 4096, and its values are printed.
-ghost use Prim.Native.Nat.{_≤_, _<_};
-use input::Byte;
-use input::Half;
+// rounds of two, a chunk's length of two (0 stands for 4096), and then at most 32768 samples, two bytes
+// each: a meter opened at that code takes the samples so many times over, in chunks of that length, and
+// its values are printed.
+ghost use mathlib.Core.Path.{_≡_};
+ghost use Prim.Native.Nat.{_≤_, _<_, min};
+ghost use lib.ListN.{length};
+use input::Streams;
 use meter::Meter;
 use setting::Setting;
 
 fn main() {
-    let Byte::Is(code) = input::next_byte() else {
-        return;
-    };
-    let Half::Is(rounds) = input::next_half() else {
-        return;
-    };
-    let mut bytes = input::sample_bytes();
-    let count = input::received(&mut bytes) / 2;
-    let samples = input::decoded(&bytes, count);
+    let mut bytes = [0u8; 65541];
+    let mut lines = [0u8; 1024];
+    let streams = Streams::new().ready(&mut bytes, &mut lines, 65541);
+    let source = streams.source;
+    let mut line = [0u8; 1024];
+    let used = print::meter(&mut line, 0, measured(input::ahead(&bytes, source, 65541)));
+    streams
+        .put(&mut lines, print::filled(&line, used))
+        .closed(&lines, b"bench");
+}
+
+// The meter after an input.
+fn measured(held: &[u8]) -> Meter {
     let fresh = Meter::open(Setting {
-        code: input::code(code),
+        code: block::one_byte(held, 0) as u32,
     });
-    print::meter(repeated(fresh.meter, rounds, &samples[0..count]));
-}
-
-// The meter after samples, so many times over.
-fn repeated(meter: Meter, rounds: u16, samples: &[i16]) -> Meter {
-    let mut meter = meter;
-    let mut round: u16 = 0;
-    while round < rounds {
-        meter = taken(meter, samples);
-        round += 1;
+    let mut samples = [0i16; 32768];
+    if held.len() < 5 {
+        return fresh.meter;
     }
-    meter
+    let part = &held[5..];
+    block::decode(part, &mut samples);
+    let count = least(part.len() / 2, 32768);
+    repeated(
+        fresh.meter,
+        block::two_bytes(held, 1),
+        chunk_length(held),
+        &samples[0..count],
+    )
 }
 
-// The meter after samples, in chunks of 4096.
-fn taken(meter: Meter, samples: &[i16]) -> Meter {
+// The length of a chunk.
+fn chunk_length(held: &[u8]) -> usize
+    ensures { λ r. ⌜ 0 < r ⌝ }
+{
+    let length = block::two_bytes(held, 3) as usize;
+    if length == 0 {
+        return 4096;
+    }
+    length
+}
+
+// The meter after samples, so many times over, in chunks of a length.
+fn repeated(meter: Meter, rounds: u16, chunk: usize, samples: &[i16]) -> Meter
+    requires { ⌜ (0 < chunk) × (length (now samples) ≤ 32768) ⌝ }
+{
+    if samples.len() == 0 {
+        return meter;
+    }
     let mut meter = meter;
     let mut from = 0;
-    while from < samples.len() {
-        let to = end(from, samples.len());
+    let mut left = rounds as usize * samples.len();
+    while 0 < left {
+        let to = from + least(chunk, samples.len() - from);
         meter = meter.chunk(&samples[from..to]).meter;
-        from = to;
+        left -= least(left, to - from);
+        from = next(to, samples.len());
     }
     meter
 }
 
-// Where a chunk that starts at a place ends.
-fn end(from: usize, all: usize) -> usize
-    requires { ⌜ from < all ⌝ }
-    ensures { λ r. ⌜ (from < r) × (r ≤ all) ⌝ }
+// The place after a chunk: the first one again after the last.
+fn next(to: usize, all: usize) -> usize
+    requires { ⌜ 0 < all ⌝ }
+    ensures { λ r. ⌜ r < all ⌝ }
 {
-    if all - from < 4096 { all } else { from + 4096 }
+    if to < all { to } else { 0 }
+}
+
+fn least(a: usize, b: usize) -> usize
+    ensures { λ r. ⌜ r ≡ min a b ⌝ }
+{
+    if a < b { a } else { b }
 }

@@ -1,5 +1,6 @@
 -- Every row of the table holds: the tests of all rows are computed. This is the one place that opens lev.
 use mathlib.Core.Path.{refl}
+use Rattle.level.specs.Types.{words}
 use Rattle.level.specs.Logarithm.{placeUpTo, place, start as startOf, bit, next, spell, lev, levelOf}
 use Rattle.rate.specs.Rates.{rateOf, isNamed, rowOf}
 use Rattle.refusal.specs.First.{firstOf}
@@ -7,16 +8,16 @@ use Rattle.block.specs.Block.{number, kind, rateCode, count, before, signed, sa
 use Rattle.block.specs.Refusals.{wrongLength, wrongCheck, wrongKind, wrongRate, wrongCount, zeros, usedUnused, blockRules, sound, hostRules, hostCheck}
 use Rattle.sample.specs.Activity.{counted, hung}
 use Rattle.sample.specs.Envelope.{smooth, rectified, threshold}
-use Rattle.sample.specs.Sample.{listFrom, fifteen, words, freshState, summed, counts, hangovers, sample, samples}
+use Rattle.sample.specs.Sample.{listFrom, freshState, summed, counts, hangovers, stateAfterOne, stateAfter}
 use Rattle.crossing.specs.Levels.{longTerm, activeAt, levelOfThreshold, excess}
 use Rattle.crossing.specs.Crossing.{isCrossing, lowestFrom, crossing, lowerOf, activeLevel}
-use Rattle.crossing.specs.Found.{levelsAt, noLevels, crossingIn, firstExcess}
-use Rattle.meter.specs.Refusals.{someBelow, unnamedCode, unnamedSetting, manySamples, largeSum, largeSquares, largeEnvelope, longHangover, largeCount, risingCounts, fallingHangovers, impossible, longChunk, wrongPlace, tooMany, openRules, chunkRules, blockCallRules}
+use Rattle.crossing.specs.Searched.{levelsAt, noLevels, crossingIn, firstExcess}
+use Rattle.meter.specs.Refusals.{anyOf, someBelow, unnamedCode, manySamples, largeSum, largeSquares, largeP, largeQ, impossibleSums, longHangover, largeCount, risingCount, fallingHangover, impossibleCounter, impossible, longChunk, wrongPlace, tooMany, openRules, chunkRules, blockCallRules}
 use Rattle.meter.specs.Reports.{crossingOf, firstOfMeter, noSamples, noSignal, noActivity, levelBelow, levelAbove, reportRules, noReport, reportAt, reportFor}
 use Rattle.setting.specs.Settings.{kOf, iOf}
-use Rattle.meter.specs.Calls.{fresh, zeroMeter, afterSamples, openCall, chunkCall, blockCall, reportCall}
-use Rattle.exact.specs.Calls.{samplesOf}
-use Rattle.exact.specs.Exact.{startAt, start, reaches, countNext, hangoverNext, take, takeAll, accepts, fed, exactly}
+use Rattle.meter.specs.Calls.{fresh, zeroMeter, countingOf, afterSamples, openCall, chunkCall, blockCall, reportCall}
+use Rattle.exact.specs.Calls.{broughtBy}
+use Rattle.exact.specs.Exact.{startAt, start, reaches, countNext, hangoverNext, takeOne, takeAll, accepts, fed, exactly}
 use Rattle.exact.specs.Lists.{called, after}
 use Rattle.figures.specs.Blocks.{bytes, pairs, blockOf, soundBlock, fullBlock, endBlock, twenty, threeBytes, otherSum, highSum, otherWeighted, otherKind, otherCode, noCount, highCount, usedNext, usedLast}
 use Rattle.figures.specs.Meters.{given}
@@ -25,5 +26,5 @@ use Rattle.figures.specs.Table.{run, faults, table}
 use Rattle.figures.proofs.Rows.{testOf, test, allTrue, sound-table}
 
 pub figures : All table
-unfolding placeUpTo place startOf bit next spell lev levelOf rateOf isNamed rowOf firstOf number kind rateCode count before signed samplesAt samplesIn word sumBelow checkSum weightedSum wrongLength wrongCheck wrongKind wrongRate wrongCount zeros usedUnused blockRules sound hostRules hostCheck counted hung smooth rectified threshold listFrom fifteen words freshState kOf iOf fresh zeroMeter afterSamples summed counts hangovers sample samples longTerm activeAt levelOfThreshold excess isCrossing lowestFrom crossing lowerOf activeLevel someBelow unnamedCode unnamedSetting manySamples largeSum largeSquares largeEnvelope longHangover largeCount risingCounts fallingHangovers impossible longChunk wrongPlace tooMany openRules chunkRules blockCallRules levelsAt noLevels crossingIn firstExcess crossingOf firstOfMeter noSamples noSignal noActivity levelBelow levelAbove reportRules noReport reportAt reportFor openCall chunkCall blockCall reportCall startAt start reaches countNext hangoverNext take takeAll accepts samplesOf fed exactly called after given sampledMeter meterFrom exactFrom numbersOf levelsOf valuesOf bytes pairs blockOf soundBlock fullBlock endBlock twenty threeBytes otherSum highSum otherWeighted otherKind otherCode noCount highCount usedNext usedLast run faults table testOf test allTrue
+unfolding placeUpTo place startOf bit next spell lev levelOf rateOf isNamed rowOf firstOf number kind rateCode count before signed samplesAt samplesIn word sumBelow checkSum weightedSum wrongLength wrongCheck wrongKind wrongRate wrongCount zeros usedUnused blockRules sound hostRules hostCheck counted hung smooth rectified threshold listFrom words freshState kOf iOf fresh zeroMeter countingOf afterSamples summed counts hangovers stateAfterOne stateAfter longTerm activeAt levelOfThreshold excess isCrossing lowestFrom crossing lowerOf activeLevel anyOf someBelow unnamedCode manySamples largeSum largeSquares largeP largeQ impossibleSums longHangover largeCount risingCount fallingHangover impossibleCounter impossible longChunk wrongPlace tooMany openRules chunkRules blockCallRules levelsAt noLevels crossingIn firstExcess crossingOf firstOfMeter noSamples noSignal noActivity levelBelow levelAbove reportRules noReport reportAt reportFor openCall chunkCall blockCall reportCall startAt start reaches countNext hangoverNext takeOne takeAll accepts broughtBy fed exactly called after given sampledMeter meterFrom exactFrom numbersOf levelsOf valuesOf bytes pairs blockOf soundBlock fullBlock endBlock twenty threeBytes otherSum highSum otherWeighted otherKind otherCode noCount highCount usedNext usedLast run faults table testOf test allTrue
 figures = sound-table table refl

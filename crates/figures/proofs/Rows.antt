@@ -14,14 +14,14 @@ use Rattle.meter.specs.Calls.{openCall, chunkCall, reportCall}
 use Rattle.exact.specs.Demands.{countAt}
 use Rattle.exact.specs.Envelope.{envelopeAfter, exactEnvelopeAfter}
 use Rattle.figures.specs.Meters.{settingOf, given}
-use Rattle.figures.specs.Rows.{Levels, Values, Row, level, noLevel, sampled, reported, refused, opened, handedIn, answered, checked, played, counted, needsTwo, needsD, sampledMeter, meterFrom, exactFrom, numbersOf, levelsOf, valuesOf, Holds, All}
+use Rattle.figures.specs.Rows.{Shown, Values, Row, level, noLevel, sampled, reported, refused, opened, handedIn, answered, checked, played, counted, needsTwo, needsD, sampledMeter, meterFrom, exactFrom, numbersOf, levelsOf, valuesOf, Holds, All}
 use Rattle.figures.proofs.Tests.{Test, via, _and_, atMost, itself, _on_, Equality, sameNumber, sameInteger, sameList, sameOption}
 
 -- levels, and values, by their fields
-abbrev levels : (L A C F : ℤ) (lower upper : ℕ) → Levels
+abbrev levels : (L A C F : ℤ) (lower upper : ℕ) → Shown
 levels L A C F lower upper = record { L = L; A = A; C = C; F = F; lower = lower; upper = upper }
 
-abbrev pub sameLevels : Equality Levels
+abbrev pub sameLevels : Equality Shown
 sameLevels x y =
     itself levels
     on sameInteger (x .L) (y .L)

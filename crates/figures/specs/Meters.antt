@@ -1,11 +1,12 @@
 -- The meters that rows hand in.
-use mathlib.Core.List.{List}
+use mathlib.Core.List.{List, map}
 use Prim.Native.Nat.{ℕ}
 use lib.IntN.{ℤ, pos}
 use lib.ListN.{replicate}
+use Rattle.level.specs.declared.Samples.{Samples}
+use Rattle.level.specs.Types.{samplesOf, thresholds, words}
 use Rattle.sample.specs.declared.State.{State}
 use Rattle.sample.specs.declared.Sums.{Sums}
-use Rattle.sample.specs.Sample.{words}
 use Rattle.meter.specs.declared.Meter.{Meter}
 use Rattle.setting.specs.declared.Setting.{Setting}
 use Rattle.meter.specs.Calls.{fresh}
@@ -22,12 +23,12 @@ unfoldable pub given : (n sq : ℕ) → List ℕ → Meter
 given n sq a =
     record {
       setting = settingOf 2;
-      state = record { sums = record { n = n; s = pos 0; sq = words sq; p = 0; q = 0 }; a = a; h = replicate 15 0 };
+      state = record { sums = record { n = samplesOf n; s = pos 0; sq = words sq; p = 0; q = 0 }; a = map samplesOf a; h = replicate thresholds 0 };
     }
 
 -- a meter at code 2 after 1000 samples, all else zero: refusal 2 lets it pass
 abbrev pub plain : Meter
-plain = given 1000 0 (replicate 15 0)
+plain = given 1000 0 (replicate thresholds 0)
 
 -- a meter with one of its fields another
 abbrev pub withCode : ℕ → Meter → Meter
@@ -40,7 +41,7 @@ abbrev withSums : Sums → Meter → Meter
 withSums x m = withState (record { sums = x; a = m .state .a; h = m .state .h }) m
 
 abbrev pub withN : ℕ → Meter → Meter
-withN x m = let v = m .state .sums in withSums (record { n = x; s = v .s; sq = v .sq; p = v .p; q = v .q }) m
+withN x m = let v = m .state .sums in withSums (record { n = samplesOf x; s = v .s; sq = v .sq; p = v .p; q = v .q }) m
 
 abbrev pub withS : ℤ → Meter → Meter
 withS x m = let v = m .state .sums in withSums (record { n = v .n; s = x; sq = v .sq; p = v .p; q = v .q }) m
@@ -56,7 +57,11 @@ abbrev pub withQ : ℕ → Meter → Meter
 withQ x m = let v = m .state .sums in withSums (record { n = v .n; s = v .s; sq = v .sq; p = v .p; q = x }) m
 
 abbrev pub withA : List ℕ → Meter → Meter
-withA x m = withState (record { sums = m .state .sums; a = x; h = m .state .h }) m
+withA x m = withState (record { sums = m .state .sums; a = map samplesOf x; h = m .state .h }) m
 
 abbrev pub withH : List ℕ → Meter → Meter
 withH x m = withState (record { sums = m .state .sums; a = m .state .a; h = x }) m
+
+-- the activity counts of a meter, as numbers
+abbrev pub countsOf : Meter → List ℕ
+countsOf m = map (λ (n : Samples). n .0) (m .state .a)

@@ -17,10 +17,10 @@ use Rattle.exact.specs.Demands.{meterAfter, exactAfter, countAt}
 use Rattle.exact.specs.Envelope.{envelopeAfter, exactEnvelopeAfter}
 use Rattle.exact.specs.Exact.{E}
 use Rattle.exact.specs.Lists.{called}
-use Rattle.figures.specs.Meters.{settingOf, freshAt, given}
+use Rattle.figures.specs.Meters.{settingOf, freshAt, given, countsOf}
 
 -- the levels of a report
-pub record Levels : Type 0 where
+pub record Shown : Type 0 where
   pub L : ℤ
   pub A : ℤ
   pub C : ℤ
@@ -47,7 +47,7 @@ pub data Row : Type 0 where
   -- a fresh meter of a code after samples has P, Q and activity counts a, and its report is answered with number
   sampled : (code : ℕ) (xs : List ℤ) (P Q : ℕ) (a : List ℕ) (number : ℕ) → Row
   -- a meter handed in at code 2 with n, sq and a gets a report of these levels
-  reported : (n sq : ℕ) (a : List ℕ) → Levels → Row
+  reported : (n sq : ℕ) (a : List ℕ) → Shown → Row
   -- a meter handed in at code 2 with n, sq and a is refused a report with number
   refused : (n sq : ℕ) (a : List ℕ) (number : ℕ) → Row
   -- opening with a code is answered with number
@@ -82,7 +82,7 @@ unfoldable pub numbersOf : Meter → List Call → List ℕ
 numbersOf m [] = []
 numbersOf m (call ∷ calls) = let got = called m call in got .number ∷ numbersOf (got .meter) calls
 
-unfoldable pub levelsOf : Report → Levels
+unfoldable pub levelsOf : Report → Shown
 levelsOf r =
     record {
       L = r .levels .level .0;
@@ -96,13 +96,13 @@ levelsOf r =
 unfoldable pub valuesOf : Meter → Values
 valuesOf m =
     record {
-      n = m .state .sums .n;
+      n = m .state .sums .n .0;
       s = m .state .sums .s;
       high = m .state .sums .sq .high;
       low = m .state .sums .sq .low;
       P = m .state .sums .p;
       Q = m .state .sums .q;
-      a = m .state .a;
+      a = countsOf m;
       h = m .state .h;
     }
 
@@ -111,7 +111,7 @@ Holds (level N v) = levelOf N ≡ some (pos v)
 Holds (noLevel N) = levelOf N ≡ none
 Holds (sampled code xs P Q a number) =
     let m = sampledMeter code xs in
-    (m .state .sums .p ≡ P) × (m .state .sums .q ≡ Q) × (m .state .a ≡ a) × (reportCall m .number ≡ number)
+    (m .state .sums .p ≡ P) × (m .state .sums .q ≡ Q) × (countsOf m ≡ a) × (reportCall m .number ≡ number)
 Holds (reported n sq a r) = (reportCall (given n sq a) .number ≡ 0) × (levelsOf (reportCall (given n sq a) .report) ≡ r)
 Holds (refused n sq a number) = reportCall (given n sq a) .number ≡ number
 Holds (opened code number) = openCall (settingOf code) .number ≡ number

@@ -2,32 +2,48 @@
 // once more.
 ghost use mathlib.Core.Path.{_≡_};
 ghost use lib.ListN.{length};
+use level::Samples;
 use level::Squares;
+use level::THRESHOLDS;
+use libc::STDOUT_FILENO;
 use meter::Meter;
+use sample::MOST_SAMPLES;
 use sample::State;
 use sample::Sums;
 use setting::Setting;
 
 fn main() {
-    full();
-    chunks();
-    reports();
+    let mut lines = [0u8; 4096];
+    let used = full(&mut lines, 0);
+    let used = chunks(&mut lines, used);
+    let used = reports(&mut lines, used);
+    io::write_all(STDOUT_FILENO, print::filled(&lines, used));
 }
 
 // A meter that has taken 2^48 samples takes no other, but an empty chunk.
-fn full() {
-    let meter = handed_in(281474976710656, 0, [0; 15]);
+fn full(lines: &mut [u8], used: usize) -> usize {
+    let meter = handed_in(MOST_SAMPLES, 0, [0; THRESHOLDS]);
     let one = [1i16; 1];
-    print::given(b"one sample at 2^48:", meter.chunk(&one));
-    print::given(b"an empty chunk at 2^48:", meter.chunk(&one[0..0]));
+    let used = print::given(lines, used, b"one sample at 2^48:", meter.chunk(&one));
+    print::given(
+        lines,
+        used,
+        b"an empty chunk at 2^48:",
+        meter.chunk(&one[0..0]),
+    )
 }
 
 // The longest chunk, and one sample more.
-fn chunks() {
+fn chunks(lines: &mut [u8], used: usize) -> usize {
     let fresh = Meter::open(Setting { code: 2 }).meter;
     let samples = silence();
-    print::given(b"a chunk of 4096:", fresh.chunk(&samples[0..4096]));
-    print::given(b"a chunk of 4097:", fresh.chunk(&samples));
+    let used = print::given(
+        lines,
+        used,
+        b"a chunk of 4096:",
+        fresh.chunk(&samples[0..4096]),
+    );
+    print::given(lines, used, b"a chunk of 4097:", fresh.chunk(&samples))
 }
 
 fn silence() -> [i16; 4097]
@@ -37,7 +53,7 @@ fn silence() -> [i16; 4097]
 }
 
 // The four reports on meters that are handed in.
-fn reports() {
+fn reports(lines: &mut [u8], used: usize) -> usize {
     let eighth = [
         4096,
         4096,
@@ -55,7 +71,7 @@ fn reports() {
         0,
         0,
     ];
-    print::report(handed_in(16384, 1073741824, eighth).report());
+    let used = reported(lines, used, 16384, 1073741824, eighth);
     let half = [
         4096,
         4096,
@@ -73,19 +89,24 @@ fn reports() {
         0,
         0,
     ];
-    print::report(handed_in(16384, 1073741824, half).report());
+    let used = reported(lines, used, 16384, 1073741824, half);
     let lowest = [32768, 0, 0, 0, 0, 0, 0, 0, 0, 0, 0, 0, 0, 0, 0];
-    print::report(handed_in(32768, 1275068, lowest).report());
-    print::report(handed_in(32768, 1048576, lowest).report());
+    let used = reported(lines, used, 32768, 1275068, lowest);
+    reported(lines, used, 32768, 1048576, lowest)
+}
+
+// The line of a report on a meter that is handed in.
+fn reported(lines: &mut [u8], used: usize, n: u64, squares: u64, a: [u64; THRESHOLDS]) -> usize {
+    print::report(lines, used, handed_in(n, squares, a).report())
 }
 
 // A meter at code 2 whose other fields are zero.
-fn handed_in(n: u64, squares: u64, a: [u64; 15]) -> Meter {
+fn handed_in(n: u64, squares: u64, a: [u64; THRESHOLDS]) -> Meter {
     Meter {
         setting: Setting { code: 2 },
         state: State {
             sums: Sums {
-                n,
+                n: Samples::of(n),
                 s: 0,
                 sq: Squares {
                     high: 0,
@@ -94,8 +115,8 @@ fn handed_in(n: u64, squares: u64, a: [u64; 15]) -> Meter {
                 p: 0,
                 q: 0,
             },
-            a,
-            h: [0; 15],
+            a: sample::counts(a),
+            h: [0; THRESHOLDS],
         },
     }
 }

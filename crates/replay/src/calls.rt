@@ -1,113 +1,137 @@
-// The records that play a meter's calls, each by its own function.
-use crate::Turn;
-use input::Byte;
-use input::Half;
+// What each record asks, and its line. A record is as long as its kind says, or as far as it is kept.
+ghost use Rattle.replay.specs.Signed.{signed as signedOf};
+ghost use mathlib.Core.Path.{_≡_};
+ghost use Prim.Native.Nat.{_≤_};
+use crate::questions;
+use level::Samples;
 use level::Squares;
+use level::THRESHOLDS;
 use meter::Fed;
 use meter::Meter;
 use sample::State;
 use sample::Sums;
 use setting::Setting;
 
-// 1: opening.
-pub fn open(meter: Meter) -> Turn {
-    let Byte::Is(code) = input::next_byte() else {
-        return cut(meter);
-    };
-    told(
-        b"open",
-        Meter::open(Setting {
-            code: input::code(code),
-        }),
-    )
+// The meter after a record, and how much of the lent buffer its line takes.
+pub struct Answer {
+    pub meter: Meter,
+    pub used: usize,
+}
+
+// The answer to a record of a known kind.
+pub fn answered(record: &[u8], meter: Meter, samples: &mut [i16], line: &mut [u8]) -> Answer {
+    let code = block::one_byte(record, 1) as u32;
+    match block::one_byte(record, 0) {
+        1 => told(line, b"open", Meter::open(Setting { code })),
+        2 => chunk(record, meter, samples, line),
+        3 => told(line, b"block", meter.block(after(record, 3))),
+        4 => report(meter, line),
+        5 => Answer {
+            meter: loaded(record),
+            used: print::words(line, 0, b"load\n"),
+        },
+        6 => Answer {
+            meter,
+            used: print::meter(line, 0, meter),
+        },
+        7 => Answer {
+            meter,
+            used: questions::lev(record, line),
+        },
+        _ => Answer {
+            meter,
+            used: questions::check(after(record, 4), code, line),
+        },
+    }
+}
+
+// The bytes of a record from a place on.
+fn after(record: &[u8], at: usize) -> &[u8] {
+    if record.len() <= at {
+        return &record[0..0];
+    }
+    &record[at..]
 }
 
 // 2: a chunk.
-pub fn chunk(meter: Meter) -> Turn {
-    let Half::Is(count) = input::next_half() else {
-        return cut(meter);
-    };
-    let n = count as usize;
-    let mut bytes = input::sample_bytes();
-    if !input::filled(&mut bytes, 2 * n) {
-        return cut(meter);
-    }
-    let samples = input::decoded(&bytes, n);
-    told(b"chunk", meter.chunk(&samples[0..n]))
+fn chunk(record: &[u8], meter: Meter, samples: &mut [i16], line: &mut [u8]) -> Answer {
+    let part = after(record, 3);
+    block::decode(part, samples);
+    let n = least(part.len() / 2, samples.len());
+    told(line, b"chunk", meter.chunk(&samples[0..n]))
 }
 
-// 3: a block.
-pub fn block(meter: Meter) -> Turn {
-    let Half::Is(length) = input::next_half() else {
-        return cut(meter);
-    };
-    let n = length as usize;
-    let mut bytes = io::large_buffer();
-    if !input::filled(&mut bytes, n) {
-        return cut(meter);
-    }
-    told(b"block", meter.block(&bytes[0..n]))
+fn least(a: usize, b: usize) -> usize
+    ensures { λ r. ⌜ (r ≤ a) × (r ≤ b) ⌝ }
+{
+    if a < b { a } else { b }
 }
 
 // 4: a report.
-pub fn report(meter: Meter) -> Turn {
-    let given = meter.report();
-    print::report(given);
-    whole(given.meter)
+fn report(meter: Meter, line: &mut [u8]) -> Answer {
+    let reported = meter.report();
+    let meter = reported.meter;
+    Answer {
+        meter,
+        used: print::report(line, 0, reported),
+    }
 }
 
 // 5: a meter to go on with.
-pub fn load(meter: Meter) -> Turn {
-    let mut record = [0u8; 289];
-    if !input::filled(&mut record, 289) {
-        return cut(meter);
-    }
-    print::words(b"load");
-    print::end_of_line();
-    whole(Meter {
+fn loaded(record: &[u8]) -> Meter {
+    Meter {
         setting: Setting {
-            code: input::code(record[0]),
+            code: block::one_byte(record, 1) as u32,
         },
         state: State {
-            sums: sums(&record),
-            a: input::fifteen(&record, 49),
-            h: input::fifteen(&record, 169),
+            sums: sums(record),
+            a: sample::counts(numbers(record, 50)),
+            h: numbers(record, 170),
         },
-    })
-}
-
-fn sums(record: &[u8; 289]) -> Sums {
-    Sums {
-        n: input::eight(record, 1),
-        s: input::signed(input::eight(record, 9)),
-        sq: Squares {
-            high: input::eight(record, 17),
-            low: input::eight(record, 25),
-        },
-        p: input::eight(record, 33),
-        q: input::eight(record, 41),
     }
 }
 
-// 6: the meter's values.
-pub fn show(meter: Meter) -> Turn {
-    print::meter(meter);
-    whole(meter)
+fn sums(record: &[u8]) -> Sums {
+    Sums {
+        n: Samples::of(block::eight_bytes(record, 2)),
+        s: signed(block::eight_bytes(record, 10)),
+        sq: Squares {
+            high: block::eight_bytes(record, 18),
+            low: block::eight_bytes(record, 26),
+        },
+        p: block::eight_bytes(record, 34),
+        q: block::eight_bytes(record, 42),
+    }
 }
 
-// A call and its line.
-fn told(name: &[u8], fed: Fed) -> Turn {
-    print::given(name, fed);
-    whole(fed.meter)
+// The signed number that 64 bits stand for, two's complement.
+fn signed(word: u64) -> i64
+    ensures { λ r. ⌜ r ≡ signedOf word ⌝ }
+{
+    if word < 9223372036854775808 {
+        return word as i64;
+    }
+    (word - 9223372036854775808) as i64 + i64::MIN
 }
 
-fn whole(meter: Meter) -> Turn {
-    Turn { whole: true, meter }
+// A number of eight bytes for each threshold, from a place on.
+fn numbers(record: &[u8], from: usize) -> [u64; THRESHOLDS]
+    requires { ⌜ from ≤ 170 ⌝ }
+{
+    let mut numbers = [0u64; THRESHOLDS];
+    let mut j = 0;
+    while j < THRESHOLDS {
+        numbers[j] = block::eight_bytes(record, from + 8 * j);
+        j += 1;
+    }
+    numbers
 }
 
-fn cut(meter: Meter) -> Turn {
-    Turn {
-        whole: false,
+// A call's line, and the meter that it handed back.
+fn told(line: &mut [u8], name: &[u8], fed: Fed) -> Answer {
+    let meter = fed.meter;
+    Answer {
         meter,
+        used: print::given(line, 0, name, fed),
     }
 }

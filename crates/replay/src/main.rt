@@ -15,63 +15,133 @@
 // each, n, s, sq high, sq low, P, Q, the fifteen a_j and the fifteen h_j. A report's 25 values are its n, s,
 // sq high, sq low, the fifteen a_j, L, A, C, F, and the lower and upper j. The run starts with a meter of
 // all zeros; open and load replace it. A record that is cut short, or of another kind, ends the run with
-// the line `bad record k`, where k is its number, from 1.
+// the line `bad record k`, where k is its number, from 1; standard error says where it starts and what is
+// wrong with it. A failure to read or to write ends the run with a line on standard error alone.
 mod calls;
+mod faults;
 mod questions;
+mod records;
 
-use input::Byte;
+use calls::Answer;
+use input::Streams;
 use meter::Meter;
 use setting::Setting;
 
-// The meter after a record, and whether the record was whole.
-pub struct Turn {
-    pub whole: bool,
+// How a run goes on: with another record; not at all, since no more can be read or written; or not at
+// all, since a record is of no known kind or is cut short.
+pub enum Going {
+    On,
+    Ended,
+    Unknown(u8),
+    Cut,
+}
+
+// The meter after a record, what is read and written, where the record starts, and how the run goes on.
+pub struct Run {
     pub meter: Meter,
+    pub streams: Streams,
+    pub place: u64,
+    pub going: Going,
 }
 
 fn main() {
+    if os::arg_count() > 1 {
+        faults::word();
+        return;
+    }
+    let mut bytes = [0u8; 32768];
+    let mut samples = [0i16; 4097];
+    let mut line = [0u8; 1024];
+    let mut lines = [0u8; 4096];
+    played(&mut bytes, &mut samples, &mut line, &mut lines);
+}
+
+// Plays all records.
+fn played(bytes: &mut [u8], samples: &mut [i16], line: &mut [u8], lines: &mut [u8]) {
     let mut meter = Meter::open(Setting { code: 0 }).meter;
+    let mut streams = Streams::new();
     let mut k: u64 = 1;
     while k < u64::MAX {
-        let Byte::Is(kind) = input::next_byte() else {
-            return;
-        };
-        let turn = played(kind, meter);
-        if !turn.whole {
-            bad(k);
-            return;
+        let run = turn(meter, streams, bytes, samples, line, lines);
+        let going = run.going;
+        match going {
+            Going::On => {}
+            Going::Ended | Going::Unknown(_) | Going::Cut => {
+                faults::ended(run, k, lines);
+                return;
+            }
         }
-        meter = turn.meter;
+        meter = run.meter;
+        streams = run.streams;
         k += 1;
     }
 }
 
-// Plays a record of a kind.
-fn played(kind: u8, meter: Meter) -> Turn {
-    match kind {
-        1 => calls::open(meter),
-        2 => calls::chunk(meter),
-        3 => calls::block(meter),
-        4 => calls::report(meter),
-        5 => calls::load(meter),
-        6 => calls::show(meter),
-        7 => Turn {
-            whole: questions::lev(),
-            meter,
-        },
-        8 => Turn {
-            whole: questions::check(),
-            meter,
-        },
-        _ => Turn {
-            whole: false,
-            meter,
-        },
+// Reads a record and plays it, where it can be played.
+fn turn(
+    meter: Meter,
+    streams: Streams,
+    bytes: &mut [u8],
+    samples: &mut [i16],
+    line: &mut [u8],
+    lines: &mut [u8],
+) -> Run {
+    let begun = records::read(streams, bytes, lines);
+    let going = records::judged(bytes, begun);
+    match going {
+        Going::On => answered(meter, begun, bytes, samples, line, lines),
+        Going::Ended | Going::Unknown(_) | Going::Cut => {
+            let source = begun.source;
+            Run {
+                meter,
+                streams: begun,
+                place: source.place(),
+                going,
+            }
+        }
     }
 }
 
-fn bad(k: u64) {
-    print::words(b"bad record ");
-    print::unsigned(k);
-    print::end_of_line();
+// Plays the record ahead, which can be played.
+fn answered(
+    meter: Meter,
+    streams: Streams,
+    bytes: &mut [u8],
+    samples: &mut [i16],
+    line: &mut [u8],
+    lines: &mut [u8],
+) -> Run {
+    let answer = calls::answered(records::ahead(bytes, streams), meter, samples, line);
+    passed(answer, streams, bytes, line, lines)
+}
+
+// Reads through the rest of the record that is answered, and puts its line on the page where all of the
+// record came.
+fn passed(
+    answer: Answer,
+    streams: Streams,
+    bytes: &mut [u8],
+    line: &[u8],
+    lines: &mut [u8],
+) -> Run {
+    let meter = answer.meter;
+    let source = streams.source;
+    let kept = records::ahead(bytes, streams).len();
+    let rest = records::rest(records::ahead(bytes, streams));
+    let passed = streams.used(kept).passed(bytes, lines, rest);
+    let begun = passed.streams;
+    if 0 < passed.left {
+        return Run {
+            meter,
+            streams: begun,
+            place: source.place(),
+            going: Going::Cut,
+        };
+    }
+    Run {
+        meter,
+        streams: begun.put(lines, print::filled(line, answer.used)),
+        place: source.place(),
+        going: Going::On,
+    }
 }

@@ -1,44 +1,28 @@
-// The records that need no meter, each played by its own function, which answers whether the record was
-// whole.
-use input::Byte;
-use input::Half;
-use input::Word;
+// The records that need no meter.
 use level::Level;
 use level::Squares;
 
 // 7: the level of a number of two words.
-pub fn lev() -> bool {
-    let Word::Is(high) = input::next_word() else {
-        return false;
-    };
-    let Word::Is(low) = input::next_word() else {
-        return false;
-    };
-    print::words(b"lev ");
+pub fn lev(record: &[u8], line: &mut [u8]) -> usize {
+    let high = block::eight_bytes(record, 1);
+    let low = block::eight_bytes(record, 9);
+    let used = print::words(line, 0, b"lev");
     match (Squares { high, low }).level() {
-        Level::At(steps) => print::signed(steps.0),
-        Level::None => print::words(b"none"),
+        Level::At(steps) => {
+            let used = print::spaced_signed(line, used, steps.value());
+            print::end_of_line(line, used)
+        }
+        Level::None => print::words(line, used, b" none\n"),
     }
-    print::end_of_line();
-    true
 }
 
 // 8: the C host's check of a block.
-pub fn check() -> bool {
-    let Byte::Is(code) = input::next_byte() else {
-        return false;
-    };
-    let Half::Is(length) = input::next_half() else {
-        return false;
-    };
-    let mut buffer = io::large_buffer();
-    let n = length as usize;
-    if !input::filled(&mut buffer, n) {
-        return false;
-    }
-    let number = block::hoggetwhirl_check_block(&buffer[0..n], input::code(code));
-    print::words(b"check ");
-    print::unsigned(number as u64);
-    print::end_of_line();
-    true
+pub fn check(block: &[u8], code: u32, line: &mut [u8]) -> usize {
+    let used = print::words(line, 0, b"check");
+    let used = print::spaced(
+        line,
+        used,
+        block::hoggetwhirl_check_block(block, code) as u64,
+    );
+    print::end_of_line(line, used)
 }

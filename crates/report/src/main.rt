@@ -1,8 +1,13 @@
 // The report program (document 01, "Worked figures"): measures sample blocks of rate code 1 from standard
 // input. A refused block has its line as it is read; at the end come five lines about the measurement.
-ghost use mathlib.Core.Path.{_≡_};
-ghost use lib.ListN.{length};
+// Where not all of the input could be read, or not all lines written, standard error says so, and the
+// five lines are not printed.
 use crossing::Levels;
+use input::Coming;
+use input::Streams;
+use level::Samples;
+use level::Squares;
+use level::THRESHOLDS;
 use meter::Fed;
 use meter::Meter;
 use refusal::Answer;
@@ -10,87 +15,174 @@ use sample::State;
 use setting::Setting;
 
 fn main() {
-    let fresh = Meter::open(Setting { code: 1 });
-    reported(measured(fresh.meter));
+    if os::arg_count() > 1 {
+        print::told(
+            b"report takes no words: it reads sample blocks of 512 bytes from standard input, and prints a line for each that is refused and then five about the measurement\n",
+        );
+        return;
+    }
+    let mut bytes = [0u8; 32768];
+    let mut lines = [0u8; 4096];
+    let measured = measured(&mut bytes, &mut lines);
+    let streams = measured.streams;
+    if is_whole(streams) {
+        let mut line = [0u8; 1024];
+        let used = reported(&mut line, measured.meter);
+        streams
+            .put(&mut lines, print::filled(&line, used))
+            .closed(&lines, b"report");
+    } else {
+        streams.closed(&lines, b"report");
+    }
 }
 
-// The meter after every block of the input. A short last block counts as one, at its own length.
-fn measured(fresh: Meter) -> Meter {
-    let mut meter = fresh;
+// A meter, what is read and written, and whether there can be another block.
+struct Measurement {
+    meter: Meter,
+    streams: Streams,
+    more: bool,
+}
+
+// The measurement of every block of the input.
+fn measured(bytes: &mut [u8], lines: &mut [u8]) -> Measurement {
+    let meter = Meter::open(Setting { code: 1 }).meter;
+    let mut all = Measurement {
+        meter,
+        streams: Streams::new(),
+        more: true,
+    };
     let mut k: u64 = 1;
     while k < u64::MAX {
-        let mut bytes = room();
-        let n = input::received(&mut bytes);
-        if n == 0 {
-            return meter;
+        all = turn(all, bytes, lines, k);
+        if !all.more {
+            return all;
         }
-        let fed = meter.block(&bytes[0..n]);
-        told(k, fed);
-        meter = fed.meter;
         k += 1;
     }
-    meter
+    all
 }
 
-// Room for a block.
-fn room() -> [u8; 512]
-    ensures { λ r. ⌜ 512 ≡ length r ⌝ }
-{
-    [0; 512]
+// The measurement with the k-th block.
+fn turn(all: Measurement, bytes: &mut [u8], lines: &mut [u8], k: u64) -> Measurement {
+    let meter = all.meter;
+    let streams = all.streams;
+    taken(meter, streams.ready(bytes, lines, 512), bytes, lines, k)
 }
 
-// The line of the k-th block, where it was refused.
-fn told(k: u64, fed: Fed) {
+// The measurement with the k-th block, which is read where there is one.
+fn taken(meter: Meter, streams: Streams, bytes: &[u8], lines: &mut [u8], k: u64) -> Measurement {
+    let block = block_ahead(bytes, streams);
+    if block.len() == 0 {
+        return Measurement {
+            meter,
+            streams,
+            more: false,
+        };
+    }
+    let fed = meter.block(block);
+    let after = fed.meter;
+    Measurement {
+        meter: after,
+        streams: told(streams.used(512), k, fed, lines),
+        more: true,
+    }
+}
+
+// The next block. A short last block counts as one, at its own length; bytes after which reading failed
+// do not, and after a write that failed no block is taken.
+fn block_ahead(bytes: &[u8], streams: Streams) -> &[u8] {
+    let source = streams.source;
+    let page = streams.page;
+    if page.is_well() {
+        if 512 <= source.unused() {
+            return input::ahead(bytes, source, 512);
+        }
+        if has_ended(streams) {
+            return input::ahead(bytes, source, 512);
+        }
+    }
+    &bytes[0..0]
+}
+
+// Whether all of the input was read.
+fn has_ended(streams: Streams) -> bool {
+    let source = streams.source;
+    let coming = source.coming;
+    match coming {
+        Coming::End => true,
+        Coming::More | Coming::Failed(_) => false,
+    }
+}
+
+// Whether all of the input was read, and no write has failed.
+fn is_whole(streams: Streams) -> bool {
+    let page = streams.page;
+    if page.is_well() {
+        return has_ended(streams);
+    }
+    false
+}
+
+// The streams with the line of the k-th block, where it was refused.
+fn told(streams: Streams, k: u64, fed: Fed, lines: &mut [u8]) -> Streams {
     let answer = fed.answer;
     match answer {
-        Answer::Accepted => {}
+        Answer::Accepted => streams,
         Answer::Refused(why) => {
-            print::words(b"block ");
-            print::unsigned(k);
-            print::words(b" ");
-            refused(refusal::number(why));
+            let mut line = [0u8; 64];
+            let used = print::words(&mut line, 0, b"block");
+            let used = print::spaced(&mut line, used, k);
+            let used = print::words(&mut line, used, b" ");
+            let used = refused(&mut line, used, refusal::number(why));
+            streams.put(lines, print::filled(&line, used))
         }
     }
 }
 
-fn refused(number: u32) {
-    print::words(b"refused ");
-    print::unsigned(number as u64);
-    print::end_of_line();
+fn refused(line: &mut [u8], used: usize, number: u32) -> usize {
+    let used = print::words(line, used, b"refused");
+    let used = print::spaced(line, used, number as u64);
+    print::end_of_line(line, used)
 }
 
 // The five lines.
-fn reported(meter: Meter) {
-    sums(meter.state);
+fn reported(line: &mut [u8], meter: Meter) -> usize {
+    let used = sums(line, meter.state);
     let given = meter.report();
     let answer = given.answer;
     match answer {
-        Answer::Accepted => levels(given.report.levels),
-        Answer::Refused(why) => refused(refusal::number(why)),
+        Answer::Accepted => levels(line, used, given.report.levels),
+        Answer::Refused(why) => refused(line, used, refusal::number(why)),
     }
 }
 
 // The first four, from the meter itself: they stand whether or not there is a report.
-fn sums(state: State) {
+fn sums(line: &mut [u8], state: State) -> usize {
     let sums = state.sums;
+    let sq = sums.sq;
     let a = state.a;
-    print::words(b"samples");
-    print::spaced(sums.n);
-    print::end_of_line();
-    print::words(b"sum");
-    print::spaced_signed(sums.s);
-    print::end_of_line();
-    print::words(b"squares");
-    print::spaced(sums.sq.high);
-    print::spaced(sums.sq.low);
-    print::end_of_line();
-    print::words(b"counts");
-    print::fifteen(&a);
-    print::end_of_line();
+    let used = print::words(line, 0, b"samples");
+    let used = print::spaced(line, used, sums.n.count());
+    let used = print::words(line, used, b"\nsum");
+    let used = print::spaced_signed(line, used, sums.s);
+    let used = squares(line, used, sq);
+    counts(line, used, a)
 }
 
-fn levels(levels: Levels) {
-    print::words(b"level");
-    print::levels(levels);
-    print::end_of_line();
+fn squares(line: &mut [u8], used: usize, sq: Squares) -> usize {
+    let used = print::words(line, used, b"\nsquares");
+    let used = print::spaced(line, used, sq.high);
+    print::spaced(line, used, sq.low)
+}
+
+fn counts(line: &mut [u8], used: usize, a: [Samples; THRESHOLDS]) -> usize {
+    let used = print::words(line, used, b"\ncounts");
+    let used = print::counts(line, used, a);
+    print::end_of_line(line, used)
+}
+
+fn levels(line: &mut [u8], used: usize, levels: Levels) -> usize {
+    let used = print::words(line, used, b"level");
+    let used = print::levels(line, used, levels);
+    print::end_of_line(line, used)
 }

@@ -10,6 +10,8 @@ mod plain;
 mod runs;
 mod step;
 
+pub use plain::counts;
+
 ghost use mathlib.Core.Path.{_≡_};
 ghost use lib.ListN.{length};
 ghost use Rattle.sample.specs.Sample.{stateAfter};

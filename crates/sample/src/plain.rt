@@ -18,6 +18,7 @@ pub fn numbers(a: [Samples; THRESHOLDS]) -> [u64; THRESHOLDS]
     numbers
 }
 
+// Also for a host that hands in a meter.
 pub fn counts(a: [u64; THRESHOLDS]) -> [Samples; THRESHOLDS]
     ensures { λ r. ⌜ r ≡ map samplesOf a ⌝ }
 {

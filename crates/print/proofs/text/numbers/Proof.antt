@@ -1,16 +1,16 @@
--- The places left fall.
+-- The numbers left fall.
 use borrow.Author.Needs.{needs}
 use mathlib.Core.Path.{_≡_}
 use Prim.Native.Nat.{_-_}
 use lib.ListN.{length}
-use Rattle.print.proofs.counts.Statement.{statement}
-use Rattle.print.proofs.counts.Tie as tie
+use Rattle.print.proofs.text.numbers.Statement.{statement}
+use Rattle.print.proofs.text.numbers.Tie as tie
 
 abbrev Inv-loop : tie.InvT-loop
-Inv-loop a j₀ j = 15 ≡ length a
+Inv-loop line₀ used xs end₀ j₀ line end j = length line ≡ length line₀
 
 abbrev μ-loop : tie.MeasureT-loop
-μ-loop a j₀ j = 15 - j
+μ-loop line₀ used xs end₀ j₀ line end j = 15 - j
 
 loop-holds : tie.Need-loop-holds Inv-loop μ-loop
 loop-holds c = search needs
@@ -33,11 +33,14 @@ loop-less c = search needs
 loop-again : tie.Need-loop-again Inv-loop μ-loop
 loop-again c = search needs
 
+same-length : tie.Need-same-length Inv-loop μ-loop
+same-length c = search needs
+
 returns : tie.Need-returns Inv-loop μ-loop
 returns c = search needs
 
-pub counts-spec : {M : Type 1} → statement M
-counts-spec =
+pub numbers-spec : {M : Type 1} → statement M
+numbers-spec =
     tie.close
     (tie.spec
     Inv-loop
@@ -49,4 +52,5 @@ counts-spec =
     add-j
     loop-less
     loop-again
+    same-length
     returns)

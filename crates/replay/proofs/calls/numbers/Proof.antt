@@ -1,26 +1,26 @@
 -- The places left fall.
 use borrow.Author.Needs.{needs}
 use Prim.Native.Nat.{_-_}
-use Rattle.input.proofs.fifteen.Statement.{statement}
-use Rattle.input.proofs.fifteen.Tie as tie
+use Rattle.replay.proofs.calls.numbers.Statement.{statement}
+use Rattle.replay.proofs.calls.numbers.Tie as tie
 
 abbrev Inv-loop : tie.InvT-loop
-Inv-loop bytes from numbers₀ j₀ numbers j = Unit {0}
+Inv-loop «record» from numbers₀ j₀ numbers j = Unit {0}
 
 abbrev μ-loop : tie.MeasureT-loop
-μ-loop bytes from numbers₀ j₀ numbers j = 15 - j
+μ-loop «record» from numbers₀ j₀ numbers j = 15 - j
 
 loop-holds : tie.Need-loop-holds Inv-loop μ-loop
 loop-holds c = search needs
 
-mul-eight : tie.Need-mul-eight Inv-loop μ-loop
-mul-eight c = search needs
+mul-eight-bytes : tie.Need-mul-eight-bytes Inv-loop μ-loop
+mul-eight-bytes c = search needs
 
-add-eight : tie.Need-add-eight Inv-loop μ-loop
-add-eight c = search needs
+add-eight-bytes : tie.Need-add-eight-bytes Inv-loop μ-loop
+add-eight-bytes c = search needs
 
-eight-requires : tie.Need-eight-requires Inv-loop μ-loop
-eight-requires c κs = search needs
+eight-bytes-requires : tie.Need-eight-bytes-requires Inv-loop μ-loop
+eight-bytes-requires c κs = search needs
 
 mul-numbers : tie.Need-mul-numbers Inv-loop μ-loop
 mul-numbers c = search needs
@@ -40,16 +40,16 @@ loop-again c = search needs
 returns : tie.Need-returns Inv-loop μ-loop
 returns c = search needs
 
-pub fifteen-spec : {M : Type 1} → statement M
-fifteen-spec =
+pub numbers-spec : {M : Type 1} → statement M
+numbers-spec =
     tie.close
     (tie.spec
     Inv-loop
     μ-loop
     loop-holds
-    mul-eight
-    add-eight
-    eight-requires
+    mul-eight-bytes
+    add-eight-bytes
+    eight-bytes-requires
     mul-numbers
     array-write-numbers
     add-j

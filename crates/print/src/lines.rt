@@ -1,0 +1,96 @@
+// A meter, and what a call gave, as text behind what a buffer holds already.
+use crate::text;
+use crossing::Levels;
+use level::Samples;
+use level::Squares;
+use level::THRESHOLDS;
+use meter::Fed;
+use meter::Meter;
+use meter::Report;
+use meter::Reported;
+use refusal::Answer;
+use sample::Sums;
+
+// A line with `meter` and its 37 values: the code, n, s, sq high, sq low, P, Q, the a_j, the h_j.
+pub fn meter(line: &mut [u8], used: usize, meter: Meter) -> usize {
+    let sums = meter.state.sums;
+    let a = meter.state.a;
+    let h = meter.state.h;
+    let used = text::words(line, used, b"meter");
+    let used = text::spaced(line, used, meter.setting.code as u64);
+    let used = followed(line, used, sums);
+    let used = counts(line, used, a);
+    let used = text::numbers(line, used, &h);
+    text::end_of_line(line, used)
+}
+
+// n, s, sq high, sq low, P and Q, each after a space.
+fn followed(line: &mut [u8], used: usize, sums: Sums) -> usize {
+    let n = sums.n;
+    let sq = sums.sq;
+    let used = totals(line, used, n, sums.s, sq);
+    let used = text::spaced(line, used, sums.p);
+    text::spaced(line, used, sums.q)
+}
+
+// n, s, sq high and sq low, each after a space.
+fn totals(line: &mut [u8], used: usize, n: Samples, s: i64, sq: Squares) -> usize {
+    let used = text::spaced(line, used, n.count());
+    let used = text::spaced_signed(line, used, s);
+    let used = text::spaced(line, used, sq.high);
+    text::spaced(line, used, sq.low)
+}
+
+// A line with a call's name and the number that it gave.
+pub fn given(line: &mut [u8], used: usize, name: &[u8], fed: Fed) -> usize {
+    let answer = fed.answer;
+    let used = text::words(line, used, name);
+    let used = text::spaced(line, used, refusal::given(answer) as u64);
+    text::end_of_line(line, used)
+}
+
+// A line with `report`, the number and, where there is a report, its n, s, sq high, sq low, the a_j, L, A,
+// C, F, lower and upper.
+pub fn report(line: &mut [u8], used: usize, reported: Reported) -> usize {
+    let answer = reported.answer;
+    let used = text::words(line, used, b"report");
+    let used = text::spaced(line, used, refusal::given(answer) as u64);
+    match answer {
+        Answer::Accepted => {
+            let used = measured(line, used, reported.report);
+            text::end_of_line(line, used)
+        }
+        Answer::Refused(_) => text::end_of_line(line, used),
+    }
+}
+
+fn measured(line: &mut [u8], used: usize, report: Report) -> usize {
+    let found = report.levels;
+    let a = report.a;
+    let n = report.n;
+    let sq = report.sq;
+    let used = totals(line, used, n, report.s, sq);
+    let used = counts(line, used, a);
+    let used = levels(line, used, found);
+    let used = text::spaced(line, used, found.lower as u64);
+    text::spaced(line, used, found.upper as u64)
+}
+
+// Activity counts, each after a space.
+pub fn counts(line: &mut [u8], used: usize, a: [Samples; THRESHOLDS]) -> usize {
+    let mut end = used;
+    let mut j = 0;
+    while j < THRESHOLDS {
+        end = text::spaced(line, end, a[j].count());
+        j += 1;
+    }
+    end
+}
+
+// L, A, C and F, each after a space.
+pub fn levels(line: &mut [u8], used: usize, levels: Levels) -> usize {
+    let used = text::spaced_signed(line, used, levels.level.value());
+    let used = text::spaced_signed(line, used, levels.active.value());
+    let used = text::spaced_signed(line, used, levels.threshold.value());
+    text::spaced_signed(line, used, levels.factor.value())
+}

@@ -1,0 +1,63 @@
+// Text in a lent buffer of which some bytes are used: each function puts its text behind them, as far as
+// there is room, and answers with how many bytes are used then.
+ghost use Prim.Native.Nat.{_≤_};
+use level::THRESHOLDS;
+
+pub fn words(line: &mut [u8], used: usize, text: &[u8]) -> usize {
+    if line.len() <= used {
+        return used;
+    }
+    let n = least(text.len(), line.len() - used);
+    let mut i = 0;
+    while i < n {
+        line[used + i] = text[i];
+        i += 1;
+    }
+    used + n
+}
+
+fn least(a: usize, b: usize) -> usize
+    ensures { λ r. ⌜ (r ≤ a) × (r ≤ b) ⌝ }
+{
+    if a < b { a } else { b }
+}
+
+pub fn unsigned(line: &mut [u8], used: usize, x: u64) -> usize {
+    let mut digits = [0u8; 20];
+    let n = io::decimal(x, &mut digits);
+    words(line, used, &digits[..n])
+}
+
+pub fn signed(line: &mut [u8], used: usize, x: i64) -> usize {
+    if x < 0 {
+        let sign = words(line, used, b"-");
+        return unsigned(line, sign, signed::magnitude(x));
+    }
+    unsigned(line, used, signed::magnitude(x))
+}
+
+// After a space.
+pub fn spaced(line: &mut [u8], used: usize, x: u64) -> usize {
+    let space = words(line, used, b" ");
+    unsigned(line, space, x)
+}
+
+pub fn spaced_signed(line: &mut [u8], used: usize, x: i64) -> usize {
+    let space = words(line, used, b" ");
+    signed(line, space, x)
+}
+
+// A number for each threshold, each after a space.
+pub fn numbers(line: &mut [u8], used: usize, xs: &[u64; THRESHOLDS]) -> usize {
+    let mut end = used;
+    let mut j = 0;
+    while j < THRESHOLDS {
+        end = spaced(line, end, xs[j]);
+        j += 1;
+    }
+    end
+}
+
+pub fn end_of_line(line: &mut [u8], used: usize) -> usize {
+    words(line, used, b"\n")
+}

@@ -1,0 +1,105 @@
+// Records as bytes: how long they are, and how much of one is kept.
+ghost use Prim.Native.Nat.{_≤_};
+use crate::Going;
+use input::Streams;
+
+// The streams once the next record is read as far as it is kept, or no more comes.
+pub fn read(streams: Streams, bytes: &mut [u8], lines: &mut [u8]) -> Streams {
+    let begun = begun(streams, bytes, lines);
+    begun.ready(bytes, lines, kept_ahead(bytes, begun))
+}
+
+// The streams once the kind of the next record is read, and as much as says how long it is.
+fn begun(streams: Streams, bytes: &mut [u8], lines: &mut [u8]) -> Streams {
+    let first = streams.ready(bytes, lines, 1);
+    first.ready(bytes, lines, head_ahead(bytes, first))
+}
+
+// How many bytes of the record ahead say how long it is.
+fn head_ahead(bytes: &[u8], streams: Streams) -> usize {
+    let source = streams.source;
+    head(block::one_byte(input::ahead(bytes, source, 1), 0))
+}
+
+// How many bytes of the record ahead are kept.
+fn kept_ahead(bytes: &[u8], streams: Streams) -> usize {
+    let source = streams.source;
+    kept(input::ahead(bytes, source, 4))
+}
+
+// The record ahead, as far as it is read and kept.
+pub fn ahead(bytes: &[u8], streams: Streams) -> &[u8] {
+    let source = streams.source;
+    input::ahead(bytes, source, kept_ahead(bytes, streams))
+}
+
+// How many bytes of a record of a kind say how long it is; of no known kind, none.
+fn head(kind: u8) -> usize {
+    match kind {
+        1 => 2,
+        2 | 3 => 3,
+        4 | 6 => 1,
+        5 => 290,
+        7 => 17,
+        8 => 4,
+        _ => 0,
+    }
+}
+
+// How long a record is, by its first bytes.
+fn length(record: &[u8]) -> usize {
+    let kind = block::one_byte(record, 0);
+    match kind {
+        2 => 3 + 2 * block::two_bytes(record, 1) as usize,
+        3 => 3 + block::two_bytes(record, 1) as usize,
+        8 => 4 + block::two_bytes(record, 2) as usize,
+        _ => head(kind),
+    }
+}
+
+// How many of a record's bytes are kept to play it. Of a chunk longer than a call can take these are the
+// first 4097 samples, and of such a block the first 513 bytes: a meter that refusal 2 lets through
+// refuses every longer chunk with 3 and every longer block with 4, and the host's check gives 1 by the
+// code alone or else 4. So the answer depends on the meter, the code and these bytes alone.
+fn kept(record: &[u8]) -> usize {
+    let whole = length(record);
+    match block::one_byte(record, 0) {
+        2 => least(whole, 8197),
+        3 => least(whole, 516),
+        8 => least(whole, 517),
+        _ => whole,
+    }
+}
+
+// How many bytes come after those that are kept.
+pub fn rest(record: &[u8]) -> usize {
+    let whole = length(record);
+    whole - least(whole, kept(record))
+}
+
+fn least(a: usize, b: usize) -> usize
+    ensures { λ r. ⌜ r ≤ a ⌝ }
+{
+    if a < b { a } else { b }
+}
+
+// Whether the record ahead can be played.
+pub fn judged(bytes: &[u8], streams: Streams) -> Going {
+    let source = streams.source;
+    let page = streams.page;
+    if !page.is_well() {
+        return Going::Ended;
+    }
+    let n = source.unused();
+    if n == 0 {
+        return Going::Ended;
+    }
+    let kept = kept_ahead(bytes, streams);
+    if kept == 0 {
+        return Going::Unknown(block::one_byte(input::ahead(bytes, source, 1), 0));
+    }
+    if n < kept {
+        return Going::Cut;
+    }
+    Going::On
+}
