@@ -13,7 +13,7 @@ use Rattle.sample.specs.Envelope.{threshold}
 use Rattle.meter.specs.Calls.{openCall, chunkCall, reportCall}
 use Rattle.exact.specs.Demands.{countAt}
 use Rattle.exact.specs.Envelope.{envelopeAfter, exactEnvelopeAfter}
-use Rattle.figures.specs.Meters.{settingOf, given}
+use Rattle.figures.specs.Meters.{settingOf, given, countsOf}
 use Rattle.figures.specs.Rows.{Shown, Values, Row, level, noLevel, sampled, reported, refused, opened, handedIn, answered, checked, played, counted, needsTwo, needsD, sampledMeter, meterFrom, exactFrom, numbersOf, levelsOf, valuesOf, Holds, All}
 use Rattle.figures.proofs.Tests.{Test, via, _and_, atMost, itself, _on_, Equality, sameNumber, sameInteger, sameList, sameOption}
 
@@ -56,7 +56,7 @@ testOf (sampled code xs P Q a number) =
     via (λ h. (h .0, h .1 .0, h .1 .1 .0, h .1 .1 .1))
     (sameNumber (m .state .sums .p) P
     and sameNumber (m .state .sums .q) Q
-    and sameList sameNumber (m .state .a) a
+    and sameList sameNumber (countsOf m) a
     and sameNumber (reportCall m .number) number)
 testOf (reported n sq a r) =
     let got = reportCall (given n sq a) in

@@ -55,7 +55,7 @@ passes m p =
         of-none _ (le-ltb _ _ (p .n-max), (le-ltb _ _ (p .s-max), (le-ltb _ _ (p .sq-max), (le-ltb _ _ (p .p-max), (le-ltb _ _ (p .q-max), tt))))),
         (
           none-below thresholds _ (λ j l.
-          of-none _ (le-ltb _ _ (p .h-max j l), (le-ltb _ _ (p .a-max j l), (ordered j _ _ (p .a-falls j), (ordered j _ _ (p .h-rises j), tt))))),
+              of-none _ (le-ltb _ _ (p .h-max j l), (le-ltb _ _ (p .a-max j l), (ordered j _ _ (p .a-falls j), (ordered j _ _ (p .h-rises j), tt))))),
           tt,
         ),
       ),

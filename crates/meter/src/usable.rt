@@ -18,7 +18,9 @@ use sample::Sums;
 
 // The bounds of |s| and of sq for each sample, and of P and Q.
 const SUM_BOUND: u64 = 1 << 15;
+
 const SQUARE_BOUND: u64 = 1 << 30;
+
 const ENVELOPE_BOUND: u64 = 1 << 39;
 
 // So many samples' bounds of sq make one of the high word.

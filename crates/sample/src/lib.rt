@@ -11,7 +11,6 @@ mod runs;
 mod step;
 
 pub use plain::counts;
-
 ghost use mathlib.Core.Path.{_≡_};
 ghost use lib.ListN.{length};
 ghost use Rattle.sample.specs.Sample.{stateAfter};
