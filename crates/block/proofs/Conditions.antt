@@ -6,7 +6,7 @@ use Prim.Native.Nat.{ℕ, _+_, _-_, _*_, _≤_, _<_}
 use borrow.Author.Tests.{eq-eqb, ne-eqb, le-leb, lt-leb}
 use lib.Dec.{eqb}
 use lib.ListN.{length}
-use Rattle.block.specs.Block.{number, kind, rateCode, count, checkSum, weightedSum}
+use Rattle.block.specs.Block.{numberAt, kind, rateCode, count, checkSum, weightedSum}
 use Rattle.block.specs.Refusals.{wrongLength, wrongCheck, wrongKind, wrongRate, wrongCount, usedUnused, zeros}
 
 not-not : (b : Bool) → b ≡ not (not b)
@@ -29,15 +29,15 @@ module _ (b : List ℕ) where
   unfolding wrongLength
   length-right e = ap not (eq-eqb (length b) 512 e)
 
-  pub first-off : (number b 508 2 ≡ checkSum b → ⊥) → false ≡ not (wrongCheck b)
+  pub first-off : (numberAt b 508 2 ≡ checkSum b → ⊥) → false ≡ not (wrongCheck b)
   unfolding wrongCheck
-  first-off f = sym (simp (ne-eqb (number b 508 2) (checkSum b) f))
+  first-off f = sym (simp (ne-eqb (numberAt b 508 2) (checkSum b) f))
 
-  pub first-right : number b 508 2 ≡ checkSum b → eqb (number b 510 2) (weightedSum b) ≡ not (wrongCheck b)
+  pub first-right : numberAt b 508 2 ≡ checkSum b → eqb (numberAt b 510 2) (weightedSum b) ≡ not (wrongCheck b)
   unfolding wrongCheck
   first-right e =
-      sym (ap (λ (x : Bool). x && eqb (number b 510 2) (weightedSum b)) (eq-eqb (number b 508 2) (checkSum b) e))
-      ∙ not-not (eqb (number b 508 2) (checkSum b) && eqb (number b 510 2) (weightedSum b))
+      sym (ap (λ (x : Bool). x && eqb (numberAt b 510 2) (weightedSum b)) (eq-eqb (numberAt b 508 2) (checkSum b) e))
+      ∙ not-not (eqb (numberAt b 508 2) (checkSum b) && eqb (numberAt b 510 2) (weightedSum b))
 
   pub kind-off : (kind b ≡ 1 → ⊥) → wrongKind b ≡ true
   unfolding wrongKind

@@ -13,7 +13,7 @@ use lib.Seq.{drop-cons, append-snoc, set-at}
 use mir.Syntax.{w64}
 use mir.Val.{toZ}
 use mir.Facts.{toZ-pos}
-use Rattle.block.specs.Block.{number, signed, samplesAt}
+use Rattle.block.specs.Block.{numberAt, signed, samplesAt}
 use Rattle.block.proofs.Laws.{samples-at-length}
 
 pub upper : (w : ℕ) → w < 32768 → pos w ≡ signed w
@@ -32,20 +32,20 @@ lower w h l =
     ∙ sym (ap (λ b. cond b (pos w) (negℤ (pos (2 ^ 16 - w)))) (le-ltb w (2 ^ 15) h))
 
 -- one sample more
-last : (b : List ℕ) (at k : ℕ) → samplesAt b at (suc k) ≡ samplesAt b at k ++ (signed (number b (at + 2 * k) 2) ∷ [])
+last : (b : List ℕ) (at k : ℕ) → samplesAt b at (suc k) ≡ samplesAt b at k ++ (signed (numberAt b (at + 2 * k) 2) ∷ [])
 unfolding samplesAt
-last b at zero = ap (λ (n : ℕ). signed (number b n 2) ∷ []) (sym (add-zero at))
+last b at zero = ap (λ (n : ℕ). signed (numberAt b n 2) ∷ []) (sym (add-zero at))
 last b at (suc k) =
     let e : at + 2 + 2 * k ≡ at + 2 * suc k = omega arith in
-    ap (λ (r : List ℤ). signed (number b at 2) ∷ r) (last b (at + 2) k ∙ ap (λ (n : ℕ). samplesAt b (at + 2) k ++ (signed (number b n 2) ∷ [])) e)
+    ap (λ (r : List ℤ). signed (numberAt b at 2) ∷ r) (last b (at + 2) k ∙ ap (λ (n : ℕ). samplesAt b (at + 2) k ++ (signed (numberAt b n 2) ∷ [])) e)
 
 -- and so one more place of a buffer whose first places hold the samples so far
 pub one-more : (b : List ℕ) (xs : List ℤ) (j : ℕ) (x : ℤ)
-    → j < length xs → x ≡ signed (number b (2 * j) 2) → set (samplesAt b 0 j ++ drop j xs) j x ≡ samplesAt b 0 (j + 1) ++ drop (j + 1) xs
+    → j < length xs → x ≡ signed (numberAt b (2 * j) 2) → set (samplesAt b 0 j ++ drop j xs) j x ≡ samplesAt b 0 (j + 1) ++ drop (j + 1) xs
 one-more b xs j x h e =
     ap (λ (r : List ℤ). set (samplesAt b 0 j ++ r) j x) (drop-cons xs j (pos 0) h)
     ∙ set-at (samplesAt b 0 j) (getD xs j (pos 0)) (drop (suc j) xs) x j (samples-at-length b 0 j)
     ∙ sym (append-snoc (samplesAt b 0 j) x (drop (suc j) xs))
-    ∙ ap (λ (y : ℤ). samplesAt b 0 j ++ (y ∷ []) ++ drop (suc j) xs) (e ∙ ap (λ (n : ℕ). signed (number b n 2)) (sym (zero-add (2 * j))))
+    ∙ ap (λ (y : ℤ). samplesAt b 0 j ++ (y ∷ []) ++ drop (suc j) xs) (e ∙ ap (λ (n : ℕ). signed (numberAt b n 2)) (sym (zero-add (2 * j))))
     ∙ ap (λ (l : List ℤ). l ++ drop (suc j) xs) (sym (last b 0 j))
     ∙ ap (λ (n : ℕ). samplesAt b 0 n ++ drop n xs) (sym (add-one j))

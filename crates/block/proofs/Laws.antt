@@ -16,7 +16,7 @@ use lib.Seq.{getD-take, getD-drop, length-take-le, take-at}
 use Rattle.refusal.specs.First.{firstOf, NoneApplies, numbered, rising, Given, Lowest}
 use Rattle.refusal.proofs.Laws.{past, given, given-lowest, both}
 use Rattle.rate.specs.Rates.{isNamed}
-use Rattle.block.specs.Block.{number, rateCode, count, signed, samplesAt, samples, decodedInto}
+use Rattle.block.specs.Block.{numberAt, rateCode, count, signed, samplesAt, samplesIn, decodedInto}
 use Rattle.block.specs.Refusals.{wrongLength, wrongCheck, wrongKind, wrongRate, wrongCount, usedUnused, blockRules, sound, samplesPart, hostRules, hostCheck}
 use Rattle.block.proofs.Conditions.{length-off, rate-right}
 
@@ -141,13 +141,13 @@ part-sound b = (λ h. go (sound b) refl h, λ h. omega (arith, part-length b h, 
     go true e h = e
     go false e h = absurd (omega (arith, ap length (part-none b e)))
 
-number-part : (b : List ℕ) (k n size at : ℕ) → at + size ≤ n → number (take n (drop k b)) at size ≡ number b (k + at) size
-unfolding number
+number-part : (b : List ℕ) (k n size at : ℕ) → at + size ≤ n → numberAt (take n (drop k b)) at size ≡ numberAt b (k + at) size
+unfolding numberAt
 number-part b k n zero at h = refl
 number-part b k n (suc size) at h =
     ap₂ (λ (x y : ℕ). x + 256 * y)
     (getD-take n (drop k b) at 0 (omega arith) ∙ getD-drop k b at 0)
-    (number-part b k n size (at + 1) (omega arith) ∙ ap (λ (x : ℕ). number b x size) (sym (add-assoc k at 1)))
+    (number-part b k n size (at + 1) (omega arith) ∙ ap (λ (x : ℕ). numberAt b x size) (sym (add-assoc k at 1)))
 
 samples-part : (b : List ℕ) (k n c at : ℕ) → at + 2 * c ≤ n → samplesAt (take n (drop k b)) at c ≡ samplesAt b (k + at) c
 unfolding samplesAt
@@ -158,8 +158,8 @@ samples-part b k n (suc c) at h =
     (samples-part b k n c (at + 2) (omega arith) ∙ ap (λ (x : ℕ). samplesAt b x c) (sym (add-assoc k at 2)))
 
 -- read from its first byte on, the part gives the block's samples
-pub part-reads : (b : List ℕ) → sound b ≡ true → samplesAt (samplesPart b) 0 (count b) ≡ samples b
-unfolding samples
+pub part-reads : (b : List ℕ) → sound b ≡ true → samplesAt (samplesPart b) 0 (count b) ≡ samplesIn b
+unfolding samplesIn
 part-reads b h =
     ap (λ (p : List ℕ). samplesAt p 0 (count b)) (sym (part-some b h))
     ∙ samples-part b 12 (2 * count b) (count b) 0 (omega arith)
@@ -170,8 +170,8 @@ unfolding samplesAt
 samples-at-length b at zero = refl
 samples-at-length b at (suc k) = ap suc (samples-at-length b (at + 2) k)
 
-pub samples-length : (b : List ℕ) → length (samples b) ≡ count b
-unfolding samples
+pub samples-length : (b : List ℕ) → length (samplesIn b) ≡ count b
+unfolding samplesIn
 samples-length b = samples-at-length b 12 (count b)
 
 -- ---- a buffer that samples were put into

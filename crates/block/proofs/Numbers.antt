@@ -10,43 +10,43 @@ use borrow.Author.Tests.{eq-eqb, ne-eqb}
 use lib.Dec.{eqb}
 use lib.ListN.{length, getD, drop, List·getD-eq-default}
 use lib.Seq.{getD-drop}
-use Rattle.block.specs.Block.{number, kind, rateCode, count, before, sumBelow}
+use Rattle.block.specs.Block.{numberAt, kind, rateCode, count, before, sumBelow}
 use Rattle.block.specs.Refusals.{zeros}
 
-pub one-byte : (b : List ℕ) (at : ℕ) → getD b at 0 ≡ number b at 1
-unfolding number
+pub one-byte : (b : List ℕ) (at : ℕ) → getD b at 0 ≡ numberAt b at 1
+unfolding numberAt
 one-byte b at = omega arith
 
 -- a byte past the end
-pub no-byte : (b : List ℕ) (at : ℕ) → length b ≤ at → 0 ≡ number b at 1
+pub no-byte : (b : List ℕ) (at : ℕ) → length b ≤ at → 0 ≡ numberAt b at 1
 no-byte b at h = sym (List·getD-eq-default b 0 h) ∙ one-byte b at
 
-pub two-bytes : (b : List ℕ) (at : ℕ) → getD b at 0 + 256 * getD b (at + 1) 0 ≡ number b at 2
-unfolding number
+pub two-bytes : (b : List ℕ) (at : ℕ) → getD b at 0 + 256 * getD b (at + 1) 0 ≡ numberAt b at 2
+unfolding numberAt
 two-bytes b at = omega arith
 
 -- a number is its first two bytes and the rest
-low-two : (b : List ℕ) (at size : ℕ) → number b at 2 + 65536 * number b (at + 2) size ≡ number b at (suc (suc size))
-unfolding number
-low-two b at size = let e : number b (at + 1 + 1) size ≡ number b (at + 2) size = ap (λ (n : ℕ). number b n size) (add-assoc at 1 1) in omega arith
+low-two : (b : List ℕ) (at size : ℕ) → numberAt b at 2 + 65536 * numberAt b (at + 2) size ≡ numberAt b at (suc (suc size))
+unfolding numberAt
+low-two b at size = let e : numberAt b (at + 1 + 1) size ≡ numberAt b (at + 2) size = ap (λ (n : ℕ). numberAt b n size) (add-assoc at 1 1) in omega arith
 
-pub four-bytes : (b : List ℕ) (at : ℕ) → number b at 2 + 65536 * number b (at + 2) 2 ≡ number b at 4
+pub four-bytes : (b : List ℕ) (at : ℕ) → numberAt b at 2 + 65536 * numberAt b (at + 2) 2 ≡ numberAt b at 4
 four-bytes b at = low-two b at 2
 
-pub eight-bytes : (b : List ℕ) → number b 0 4 + 4294967296 * number b 4 4 ≡ number b 0 8
+pub eight-bytes : (b : List ℕ) → numberAt b 0 4 + 4294967296 * numberAt b 4 4 ≡ numberAt b 0 8
 eight-bytes b = omega (arith, low-two b 0 6, low-two b 2 4, four-bytes b 0)
 
 -- a number in what follows a place is the number that far on
-past : (b : List ℕ) (at i size : ℕ) → number (drop at b) i size ≡ number b (at + i) size
-unfolding number
+past : (b : List ℕ) (at i size : ℕ) → numberAt (drop at b) i size ≡ numberAt b (at + i) size
+unfolding numberAt
 past b at i zero = refl
 past b at i (suc size) =
-    ap₂ (λ (x y : ℕ). x + 256 * y) (getD-drop at b i 0) (past b at (i + 1) size ∙ ap (λ (n : ℕ). number b n size) (sym (add-assoc at i 1)))
+    ap₂ (λ (x y : ℕ). x + 256 * y) (getD-drop at b i 0) (past b at (i + 1) size ∙ ap (λ (n : ℕ). numberAt b n size) (sym (add-assoc at i 1)))
 
-pub from-place : (b : List ℕ) (at size : ℕ) → number (drop at b) 0 size ≡ number b at size
-from-place b at size = past b at 0 size ∙ ap (λ (n : ℕ). number b n size) (add-zero at)
+pub from-place : (b : List ℕ) (at size : ℕ) → numberAt (drop at b) 0 size ≡ numberAt b at size
+from-place b at size = past b at 0 size ∙ ap (λ (n : ℕ). numberAt b n size) (add-zero at)
 
-pub before-is : (b : List ℕ) → number b 4 8 ≡ before b
+pub before-is : (b : List ℕ) → numberAt b 4 8 ≡ before b
 unfolding before
 before-is b = refl
 
@@ -54,11 +54,11 @@ pub kind-is : (b : List ℕ) → getD b 0 0 ≡ kind b
 unfolding kind
 kind-is b = one-byte b 0
 
-pub rate-code-is : (b : List ℕ) → number b 1 1 ≡ rateCode b
+pub rate-code-is : (b : List ℕ) → numberAt b 1 1 ≡ rateCode b
 unfolding rateCode
 rate-code-is b = refl
 
-pub count-is : (b : List ℕ) → number b 2 2 ≡ count b
+pub count-is : (b : List ℕ) → numberAt b 2 2 ≡ count b
 unfolding count
 count-is b = refl
 

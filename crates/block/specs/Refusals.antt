@@ -7,7 +7,7 @@ use lib.Dec.{eqb, leb}
 use lib.ListN.{length, getD, take, drop}
 use Rattle.refusal.specs.First.{Rule, firstOf}
 use Rattle.rate.specs.Rates.{isNamed}
-use Rattle.block.specs.Block.{number, kind, rateCode, count, checkSum, weightedSum}
+use Rattle.block.specs.Block.{numberAt, kind, rateCode, count, checkSum, weightedSum}
 
 -- 4: not 512 bytes long
 unfoldable pub wrongLength : List ℕ → Bool
@@ -15,7 +15,7 @@ wrongLength b = not (eqb (length b) 512)
 
 -- 5: a stored check word is not the one worked out
 unfoldable pub wrongCheck : List ℕ → Bool
-wrongCheck b = not (eqb (number b 508 2) (checkSum b) && eqb (number b 510 2) (weightedSum b))
+wrongCheck b = not (eqb (numberAt b 508 2) (checkSum b) && eqb (numberAt b 510 2) (weightedSum b))
 
 -- 6: another kind
 unfoldable pub wrongKind : List ℕ → Bool

@@ -2,7 +2,7 @@
 ghost use mathlib.Core.Path.{_≡_};
 ghost use Prim.Native.Nat.{_+_, _-_, _≤_, _<_, _^_};
 ghost use lib.ListN.{length};
-ghost use Rattle.block.specs.Block.{number as numberIn, kind as kindIn};
+ghost use Rattle.block.specs.Block.{numberAt, kind as kindIn};
 ghost use Rattle.block.specs.Refusals.{zeros};
 
 pub fn kind(block: &[u8]) -> u8
@@ -15,7 +15,7 @@ pub fn kind(block: &[u8]) -> u8
 // The two-byte number at a place.
 pub fn word(block: &[u8], at: usize) -> usize
     requires { ⌜ at + 1 < length (now block) ⌝ }
-    ensures { λ r. ⌜ (r ≡ numberIn (now (block .entry)) at 2) × (r < 2 ^ 16) ⌝ }
+    ensures { λ r. ⌜ (r ≡ numberAt (now (block .entry)) at 2) × (r < 2 ^ 16) ⌝ }
 {
     let low = wide(block[at]);
     let high = wide(block[at + 1]);

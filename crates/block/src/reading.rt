@@ -2,7 +2,7 @@
 ghost use mathlib.Core.Path.{_≡_};
 ghost use Prim.Native.Nat.{_<_, _^_};
 ghost use lib.ListN.{drop};
-ghost use Rattle.block.specs.Block.{number, rateCode, before as beforeIn};
+ghost use Rattle.block.specs.Block.{numberAt, rateCode, before as beforeIn};
 
 // The rate code of a block.
 pub fn rate_code(bytes: &[u8]) -> u32
@@ -20,7 +20,7 @@ pub fn before(bytes: &[u8]) -> u64
 
 // The byte at a place.
 pub fn one_byte(bytes: &[u8], at: usize) -> u8
-    ensures { λ r. ⌜ r ≡ number (now (bytes .entry)) at 1 ⌝ }
+    ensures { λ r. ⌜ r ≡ numberAt (now (bytes .entry)) at 1 ⌝ }
 {
     if at < bytes.len() {
         return bytes[at];
@@ -30,14 +30,14 @@ pub fn one_byte(bytes: &[u8], at: usize) -> u8
 
 // The number of two bytes at a place.
 pub fn two_bytes(bytes: &[u8], at: usize) -> u16
-    ensures { λ r. ⌜ r ≡ number (now (bytes .entry)) at 2 ⌝ }
+    ensures { λ r. ⌜ r ≡ numberAt (now (bytes .entry)) at 2 ⌝ }
 {
     two(from(bytes, at), 0) as u16
 }
 
 // The number of eight bytes at a place.
 pub fn eight_bytes(bytes: &[u8], at: usize) -> u64
-    ensures { λ r. ⌜ r ≡ number (now (bytes .entry)) at 8 ⌝ }
+    ensures { λ r. ⌜ r ≡ numberAt (now (bytes .entry)) at 8 ⌝ }
 {
     let part = from(bytes, at);
     let low = four(part, 0);
@@ -47,7 +47,7 @@ pub fn eight_bytes(bytes: &[u8], at: usize) -> u64
 
 fn four(bytes: &[u8], at: usize) -> u64
     requires { ⌜ at < 2 ^ 32 ⌝ }
-    ensures { λ r. ⌜ (r ≡ number (now (bytes .entry)) at 4) × (r < 2 ^ 32) ⌝ }
+    ensures { λ r. ⌜ (r ≡ numberAt (now (bytes .entry)) at 4) × (r < 2 ^ 32) ⌝ }
 {
     let low = two(bytes, at);
     let high = two(bytes, at + 2);
@@ -56,7 +56,7 @@ fn four(bytes: &[u8], at: usize) -> u64
 
 fn two(bytes: &[u8], at: usize) -> u64
     requires { ⌜ at < 2 ^ 33 ⌝ }
-    ensures { λ r. ⌜ (r ≡ number (now (bytes .entry)) at 2) × (r < 2 ^ 16) ⌝ }
+    ensures { λ r. ⌜ (r ≡ numberAt (now (bytes .entry)) at 2) × (r < 2 ^ 16) ⌝ }
 {
     let low = wide(one_byte(bytes, at));
     let high = wide(one_byte(bytes, at + 1));

@@ -2,7 +2,7 @@
 ghost use mathlib.Core.Path.{_≡_};
 ghost use Prim.Native.Nat.{_+_, _<_, min};
 ghost use lib.ListN.{length};
-ghost use Rattle.block.specs.Block.{number, signed, decodedInto};
+ghost use Rattle.block.specs.Block.{numberAt, signed, decodedInto};
 use crate::fields;
 
 // Puts the samples in `bytes` into the first places of a buffer, as far as both go.
@@ -26,7 +26,7 @@ fn least(a: usize, b: usize) -> usize
 // The sample at a place: two bytes, two's complement.
 fn sample(bytes: &[u8], at: usize) -> i16
     requires { ⌜ at + 1 < length (now bytes) ⌝ }
-    ensures { λ r. ⌜ r ≡ signed (number (now (bytes .entry)) at 2) ⌝ }
+    ensures { λ r. ⌜ r ≡ signed (numberAt (now (bytes .entry)) at 2) ⌝ }
 {
     let word = fields::word(bytes, at);
     if word < 32768 {

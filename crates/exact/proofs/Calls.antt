@@ -15,7 +15,7 @@ use Rattle.rate.specs.Rates.{rowOf, isNamed}
 use Rattle.rate.proofs.Laws.{row-keeps}
 use Rattle.setting.specs.declared.Setting.{Setting}
 use Rattle.setting.specs.Settings.{kOf, iOf}
-use Rattle.block.specs.Block.{number, rateCode, count, before, samplesAt, samples as samplesIn}
+use Rattle.block.specs.Block.{numberAt, rateCode, count, before, samplesAt, samplesIn}
 use Rattle.block.specs.Refusals.{wrongRate, blockRules, sound}
 use Rattle.block.proofs.Laws.{sound-is, is-sound, signed-fits, samples-at-length}
 use Rattle.sample.specs.declared.Counting.{Counting}
@@ -170,7 +170,7 @@ module _ (m : Meter) (e : E) (g : Good m e) where
 block-samples : (b : List ℕ) (at k : ℕ) → AllSamples (samplesAt b at k)
 unfolding samplesAt AllSamples
 block-samples b at zero = tt
-block-samples b at (suc k) = (signed-fits (number b at 2), block-samples b (at + 2) k)
+block-samples b at (suc k) = (signed-fits (numberAt b at 2), block-samples b (at + 2) k)
 
 good-taken : (m : Meter) (e : E) (g : Good m e) (call : Call) → Typed (call ∷ []) → accepts e call ≡ true
     → Good (afterSamples m (broughtBy call)) (takeAll e (broughtBy call))

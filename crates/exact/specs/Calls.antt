@@ -4,7 +4,7 @@ use Prim.Native.Nat.{ℕ}
 use lib.IntN.{ℤ}
 use mir.Syntax.{w16}
 use mir.Val.{SFits}
-use Rattle.block.specs.Block.{samples}
+use Rattle.block.specs.Block.{samplesIn}
 
 -- a call's arguments other than the meter
 pub data Call : Type 0 where
@@ -24,4 +24,4 @@ Typed (block b ∷ calls) = Typed calls
 -- the samples that a call brings
 unfoldable pub broughtBy : Call → List ℤ
 broughtBy (chunk xs) = xs
-broughtBy (block b) = samples b
+broughtBy (block b) = samplesIn b

@@ -12,7 +12,7 @@ use Rattle.level.specs.Types.{thresholds, activity, twoWords}
 use Rattle.refusal.specs.First.{Rule, NoneApplies, Given, Lowest}
 use Rattle.setting.specs.declared.Setting.{Setting}
 use Rattle.setting.specs.Settings.{iOf, dOf}
-use Rattle.block.specs.Block.{samples as samplesIn}
+use Rattle.block.specs.Block.{samplesIn}
 use Rattle.block.specs.Refusals.{hostRules, hostCheck}
 use Rattle.sample.specs.Envelope.{threshold}
 use Rattle.sample.specs.Sample.{freshState, stateAfter}

@@ -4,7 +4,7 @@ use Rattle.level.specs.Types.{words}
 use Rattle.level.specs.Logarithm.{placeUpTo, place, start as startOf, bit, next, spell, lev, levelOf}
 use Rattle.rate.specs.Rates.{rateOf, isNamed, rowOf}
 use Rattle.refusal.specs.First.{firstOf}
-use Rattle.block.specs.Block.{number, kind, rateCode, count, before, signed, samplesAt, samples as samplesIn, word, sumBelow, checkSum, weightedSum}
+use Rattle.block.specs.Block.{numberAt, kind, rateCode, count, before, signed, samplesAt, samplesIn, word, sumBelow, checkSum, weightedSum}
 use Rattle.block.specs.Refusals.{wrongLength, wrongCheck, wrongKind, wrongRate, wrongCount, zeros, usedUnused, blockRules, sound, hostRules, hostCheck}
 use Rattle.sample.specs.Activity.{counted, hung}
 use Rattle.sample.specs.Envelope.{smooth, rectified, threshold}
@@ -26,5 +26,5 @@ use Rattle.figures.specs.Table.{run, faults, table}
 use Rattle.figures.proofs.Rows.{testOf, test, allTrue, sound-table}
 
 pub figures : All table
-unfolding placeUpTo place startOf bit next spell lev levelOf rateOf isNamed rowOf firstOf number kind rateCode count before signed samplesAt samplesIn word sumBelow checkSum weightedSum wrongLength wrongCheck wrongKind wrongRate wrongCount zeros usedUnused blockRules sound hostRules hostCheck counted hung smooth rectified threshold listFrom words freshState kOf iOf fresh zeroMeter countingOf afterSamples summed counts hangovers stateAfterOne stateAfter longTerm activeAt levelOfThreshold excess isCrossing lowestFrom crossing lowerOf activeLevel anyOf someBelow unnamedCode manySamples largeSum largeSquares largeP largeQ impossibleSums longHangover largeCount risingCount fallingHangover impossibleCounter impossible longChunk wrongPlace tooMany openRules chunkRules blockCallRules levelsAt noLevels crossingIn firstExcess crossingOf firstOfMeter noSamples noSignal noActivity levelBelow levelAbove reportRules noReport reportAt reportFor openCall chunkCall blockCall reportCall startAt start reaches countNext hangoverNext takeOne takeAll accepts broughtBy fed exactly called after given sampledMeter meterFrom exactFrom numbersOf levelsOf valuesOf bytes pairs blockOf soundBlock fullBlock endBlock twenty threeBytes otherSum highSum otherWeighted otherKind otherCode noCount highCount usedNext usedLast run faults table testOf test allTrue
+unfolding placeUpTo place startOf bit next spell lev levelOf rateOf isNamed rowOf firstOf numberAt kind rateCode count before signed samplesAt samplesIn word sumBelow checkSum weightedSum wrongLength wrongCheck wrongKind wrongRate wrongCount zeros usedUnused blockRules sound hostRules hostCheck counted hung smooth rectified threshold listFrom words freshState kOf iOf fresh zeroMeter countingOf afterSamples summed counts hangovers stateAfterOne stateAfter longTerm activeAt levelOfThreshold excess isCrossing lowestFrom crossing lowerOf activeLevel anyOf someBelow unnamedCode manySamples largeSum largeSquares largeP largeQ impossibleSums longHangover largeCount risingCount fallingHangover impossibleCounter impossible longChunk wrongPlace tooMany openRules chunkRules blockCallRules levelsAt noLevels crossingIn firstExcess crossingOf firstOfMeter noSamples noSignal noActivity levelBelow levelAbove reportRules noReport reportAt reportFor openCall chunkCall blockCall reportCall startAt start reaches countNext hangoverNext takeOne takeAll accepts broughtBy fed exactly called after given sampledMeter meterFrom exactFrom numbersOf levelsOf valuesOf bytes pairs blockOf soundBlock fullBlock endBlock twenty threeBytes otherSum highSum otherWeighted otherKind otherCode noCount highCount usedNext usedLast run faults table testOf test allTrue
 figures = sound-table table refl

@@ -5,7 +5,7 @@ use mathlib.Core.Path.{_≡_, refl, ap, _∙_}
 use Prim.Native.Nat.{ℕ, zero, suc, _<_}
 use native.Mathlib.Omega.{arith}
 use lib.ListN.{length}
-use Rattle.block.specs.Block.{rateCode, count, samples}
+use Rattle.block.specs.Block.{rateCode, count, samplesIn}
 use Rattle.block.specs.Refusals.{wrongLength, wrongCheck, wrongKind, wrongRate, blockRules, sound, samplesPart}
 use Rattle.block.proofs.Laws.{sound-is, sound-accepted, accepted-sound, part-sound, samples-length}
 use Rattle.refusal.specs.First.{firstOf, rising}
@@ -54,10 +54,10 @@ module _ (m : Meter) (b : List ℕ) (possible : impossible m ≡ false) where
       unfolding blockCall
       by-place e = refusal 10 (blockCallRules m b) _ m (omega arith) (here 10 (wrongPlace m b) _ e ∙ passed)
 
-      pub taken : wrongPlace m b ≡ false → takenBy m (samples b) ≡ blockCall m b
+      pub taken : wrongPlace m b ≡ false → takenBy m (samplesIn b) ≡ blockCall m b
       unfolding blockCall takenBy
       taken e =
-          let xs = samples b in
+          let xs = samplesIn b in
           ap (λ (n : ℕ). handed (firstOf ((11, tooMany m n) ∷ [])) (afterSamples m xs) m) (samples-length b)
           ∙ beyond 10 (wrongPlace m b) _ _ m e
           ∙ ap (λ (n : ℕ). handed n (afterSamples m xs) m) passed

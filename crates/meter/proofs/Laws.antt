@@ -17,7 +17,7 @@ use Rattle.level.proofs.Laws.{level-exists}
 use Rattle.rate.proofs.Laws.{zero-unnamed}
 use Rattle.refusal.specs.First.{NoneApplies, rising, Given, Lowest}
 use Rattle.refusal.proofs.Laws.{here, past, none, given-lowest}
-use Rattle.block.specs.Block.{samples}
+use Rattle.block.specs.Block.{samplesIn}
 use Rattle.block.specs.Refusals.{blockRules}
 use Rattle.sample.specs.Sample.{mostSamples, listFrom, freshState, stateAfter}
 use Rattle.crossing.proofs.Bounds.{Crossed, crossed, factor}
@@ -92,7 +92,7 @@ refused-open c h = subst Zeros (sym (refused _ _ _ h)) zero-fields
 pub block-taken : (m : Meter) (b : List ℕ) → (blockCall m b .number ≡ 0) ↔ NoneApplies (blockCallRules m b)
 block-taken m b = block-given m b .0 .accepted
 
-pub block-samples : (m : Meter) (b : List ℕ) → NoneApplies (blockCallRules m b) → blockCall m b .meter ≡ afterSamples m (samples b)
+pub block-samples : (m : Meter) (b : List ℕ) → NoneApplies (blockCallRules m b) → blockCall m b .meter ≡ afterSamples m (samplesIn b)
 unfolding blockCall
 block-samples m b n = accepted _ _ _ (block-given m b .0 .accepted .1 n)
 

@@ -5,7 +5,7 @@ use Prim.Native.Nat.{ℕ}
 use lib.Dec.{eqb}
 use lib.IntN.{ℤ}
 use Rattle.refusal.specs.First.{firstOf}
-use Rattle.block.specs.Block.{samples as samplesIn}
+use Rattle.block.specs.Block.{samplesIn}
 use Rattle.refusal.specs.Number.{numberGiven}
 use Rattle.meter.specs.declared.Fed.{Fed}
 use Rattle.meter.specs.declared.Meter.{Meter}

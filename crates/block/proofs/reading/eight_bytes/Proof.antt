@@ -3,7 +3,7 @@ use mathlib.Core.Path.{ap, _∙_, sym}
 use mathlib.Core.List.{List}
 use Prim.Native.Nat.{ℕ}
 use native.Mathlib.Omega.{arith}
-use Rattle.block.specs.Block.{number}
+use Rattle.block.specs.Block.{numberAt}
 use Rattle.block.proofs.Numbers.{eight-bytes, from-place}
 use borrow.Author.Needs.{needs}
 use Rattle.block.proofs.reading.eight_bytes.Statement.{statement}
@@ -28,7 +28,7 @@ returns : tie.Need-returns
 returns c =
     let f = c .before .before in
     let s = f .before .before .args in
-    omega (arith, eight-bytes (f .from .result .now), ap (λ (l : List ℕ). number l 0 8) (f .from .ensures) ∙ from-place (s .bytes .now) (s .at) 8)
+    omega (arith, eight-bytes (f .from .result .now), ap (λ (l : List ℕ). numberAt l 0 8) (f .from .ensures) ∙ from-place (s .bytes .now) (s .at) 8)
 
 pub eight-bytes-spec : {M : Type 1} → statement M
 eight-bytes-spec =

@@ -1,6 +1,6 @@
 -- A two-byte number is its two bytes.
 use borrow.Author.Needs.{needs}
-use Rattle.block.specs.Block.{number}
+use Rattle.block.specs.Block.{numberAt}
 use Rattle.block.proofs.reading.two.Statement.{statement}
 use Rattle.block.proofs.reading.two.Tie as tie
 
@@ -26,7 +26,7 @@ add-result : tie.Need-add-result
 add-result c = search needs
 
 returns : tie.Need-returns
-unfolding number
+unfolding numberAt
 returns c = search needs
 
 pub two-spec : {M : Type 1} → statement M

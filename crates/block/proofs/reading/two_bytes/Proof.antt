@@ -2,7 +2,7 @@
 use mathlib.Core.Path.{ap, _∙_}
 use mathlib.Core.List.{List}
 use Prim.Native.Nat.{ℕ}
-use Rattle.block.specs.Block.{number}
+use Rattle.block.specs.Block.{numberAt}
 use Rattle.block.proofs.Numbers.{from-place}
 use borrow.Author.Needs.{needs}
 use Rattle.block.proofs.reading.two_bytes.Statement.{statement}
@@ -18,7 +18,7 @@ cast-result : tie.Need-cast-result
 cast-result c = search needs
 
 returns : tie.Need-returns
-returns c = c .two .ensures .0 ∙ ap (λ (l : List ℕ). number l 0 2) (c .before .from .ensures) ∙ from-place _ _ 2
+returns c = c .two .ensures .0 ∙ ap (λ (l : List ℕ). numberAt l 0 2) (c .before .from .ensures) ∙ from-place _ _ 2
 
 pub two-bytes-spec : {M : Type 1} → statement M
 two-bytes-spec = tie.close (tie.spec from-requires two-requires cast-result returns)

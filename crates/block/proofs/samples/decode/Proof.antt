@@ -8,32 +8,32 @@ use lib.ListN.{length, drop, set, length-set}
 use mir.Syntax.{w16}
 use mir.Val.{SFits, toZ, ofZ}
 use mir.Facts.{toZ-ofZ}
-use Rattle.block.specs.Block.{number, signed, samplesAt, decodedInto}
+use Rattle.block.specs.Block.{numberAt, signed, samplesAt, decodedInto}
 use Rattle.block.proofs.Decoding.{one-more}
 use borrow.Author.Needs.{needs}
 use Rattle.block.proofs.samples.decode.Statement.{statement}
 use Rattle.block.proofs.samples.decode.Tie as tie
 
-record Inv (bytes : List ℕ) (before : List ℤ) (count : ℕ) (samples : List ℤ) (j : ℕ) : Type 0 where
+record Inv (bytes : List ℕ) (before : List ℤ) (count : ℕ) (samplesIn : List ℤ) (j : ℕ) : Type 0 where
   below : j ≤ count
-  room : length samples ≡ length before
-  so-far : samples ≡ samplesAt bytes 0 j ++ drop j before
+  room : length samplesIn ≡ length before
+  so-far : samplesIn ≡ samplesAt bytes 0 j ++ drop j before
 
-turn : (bytes : List ℕ) (before : List ℤ) (count : ℕ) (samples : List ℤ) (j : ℕ) (x : ℤ)
-    → j < count → count ≤ length before → Inv bytes before count samples j → SFits w16 x → x ≡ signed (number bytes (2 * j) 2)
-    → Inv bytes before count (set samples j (toZ w16 (ofZ w16 x))) (j + 1)
-turn bytes before count samples j x l m inv f e =
+turn : (bytes : List ℕ) (before : List ℤ) (count : ℕ) (samplesIn : List ℤ) (j : ℕ) (x : ℤ)
+    → j < count → count ≤ length before → Inv bytes before count samplesIn j → SFits w16 x → x ≡ signed (numberAt bytes (2 * j) 2)
+    → Inv bytes before count (set samplesIn j (toZ w16 (ofZ w16 x))) (j + 1)
+turn bytes before count samplesIn j x l m inv f e =
     record {
       below = omega arith;
-      room = length-set samples j _ ∙ inv .room;
+      room = length-set samplesIn j _ ∙ inv .room;
       so-far = ap (λ (s : List ℤ). set s j (toZ w16 (ofZ w16 x))) (inv .so-far) ∙ one-more bytes before j _ (omega arith) (toZ-ofZ f ∙ e);
     }
 
 abbrev Inv-loop : tie.InvT-loop
-Inv-loop bytes samples₀ count j₀ samples j = Inv bytes samples₀ count samples j
+Inv-loop bytes samples₀ count j₀ samplesIn j = Inv bytes samples₀ count samplesIn j
 
 abbrev μ-loop : tie.MeasureT-loop
-μ-loop bytes samples₀ count j₀ samples j = count - j
+μ-loop bytes samples₀ count j₀ samplesIn j = count - j
 
 least-requires : tie.Need-least-requires Inv-loop μ-loop
 least-requires c κs = search needs

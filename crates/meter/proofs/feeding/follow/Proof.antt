@@ -7,7 +7,7 @@ use mathlib.Core.Path.{_≡_, sym, ap, _∙_}
 use Prim.Native.Nat.{ℕ, _*_, _/_, _-_, _≤_}
 use native.Mathlib.Omega.{arith}
 use lib.ListN.{length, take}
-use Rattle.block.specs.Block.{rateCode, count, samples, samplesAt}
+use Rattle.block.specs.Block.{rateCode, count, samplesIn, samplesAt}
 use Rattle.block.specs.Refusals.{wrongRate}
 use Rattle.block.proofs.Laws.{sound-count, part-length, part-reads, samples-length, decoded-length, decoded-first}
 use Rattle.rate.proofs.Laws.{named-code}
@@ -45,7 +45,7 @@ fits : (c : tie.After-decode) → length (start c .args .part .now) / 2 ≤ 248
 fits c = let s = start c in omega (arith, half s, sound-count _ (s .pre .fits) .1)
 
 -- what was decoded is the block's samples
-read : (c : tie.After-decode) → take (length (start c .args .part .now) / 2 - 0) (c .decode .last .1 .0) ≡ samples (start c .args .bytes .now)
+read : (c : tie.After-decode) → take (length (start c .args .part .now) / 2 - 0) (c .decode .last .1 .0) ≡ samplesIn (start c .args .bytes .now)
 read c =
     let s = start c in
     let p = s .args .part .now in
