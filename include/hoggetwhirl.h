@@ -10,24 +10,42 @@ extern "C" {
 #endif
 
 /*
+ * A sample block is 512 bytes, numbers little-endian:
+ *
+ *   bytes        field
+ *   0            kind: 1
+ *   1            rate code: 1 (694 samples a second), 2 (8000) or 3 (16000)
+ *   2, 3         count: how many samples the block holds, 1 to 248
+ *   4 to 11      samples before: how many samples were measured before this block
+ *   12 to 507    samples: two bytes each, two's complement; zeros after the last one
+ *   508, 509     first check word: w0 + w1 + .. + w253, modulo 65535
+ *   510, 511     second check word: 254 w0 + 253 w1 + .. + 1 w253, modulo 65535
+ *
+ * wi is the two-byte number at bytes 2i and 2i + 1. A check word is 0 to 65534. docs/METHOD.md,
+ * "Sample blocks", works one block out and has the C code that fills the check words in.
+ */
+
+/*
  * Checks a sample block before it is passed on.
  *
- * block   the bytes of the block. They are read and never written, and nothing is read past
- *         block + length. The pointer must not be NULL: where length is 0, pass any pointer to
- *         a byte, which is then not read.
+ * block   the bytes of the block, as many as length says. They are read and never written, and
+ *         nothing may write to them until the call returns. Where length is 0 there is nothing
+ *         to read, and any pointer will do, NULL among them.
  * length  how many bytes were received; any number is allowed.
  * code    the rate code of the line.
  *
  * Returns 0 where the block is sound and of that rate, else the number of the first of these
  * that applies:
  *
- *   1  code names no rate: it is not 1 (694 samples a second), 2 (8000) or 3 (16000)
+ *   1  code names no rate: it is not 1, 2 or 3
  *   4  the block is not 512 bytes long
  *   5  a check word is wrong
  *   6  the kind is not 1
  *   7  the block's rate code is not code
- *   8  the count of samples is not 1 to 248
- *   9  an unused byte is not zero
+ *   8  the count is not 1 to 248
+ *   9  an unused byte, after the samples and up to 507, is not zero
+ *
+ * The number of samples before the block is not looked at: only the meter knows the right one.
  *
  * The function keeps no state, allocates nothing and makes no system call, so any number of
  * threads may call it at once. Every call returns.

@@ -1,4 +1,4 @@
-//! Demand 3's "a report on that meter is document 01's report": clauses on a meter and an answer.
+//! Demand 3's "a report on that meter is the scope's report": clauses on a meter and an answer.
 //!
 //! No crossing is searched for: a report tells the place of its own, which is its upper threshold.
 
@@ -16,7 +16,7 @@ pub fn clauses(meter: &Meter, answer: &Result<Report, u32>) -> Vec<Clause> {
 }
 
 /// Each number is given where its condition holds and nowhere else; one of the conditions always
-/// holds (document 01, "Why a call is refused").
+/// holds (the customer's scope, "Why a call is refused").
 fn numbers(meter: &Meter, given: u32) -> [Clause; 6] {
     let started = meter.n > 0;
     let heard = started && meter.sq > 0;
@@ -34,7 +34,7 @@ fn numbers(meter: &Meter, given: u32) -> [Clause; 6] {
     rows.map(|(r, clause, condition)| (clause, (given == r) == condition))
 }
 
-/// The report is the one at a crossing, the one that is used (document 01, "The report").
+/// The report is the one at a crossing, the one that is used (the customer's scope, "The report").
 fn fields(meter: &Meter, report: &Report) -> Vec<Clause> {
     let j = report.upper;
     let at_j = "a crossing at the upper threshold";

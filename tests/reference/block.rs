@@ -2,44 +2,44 @@
 
 use crate::rate::rate;
 
-/// The length of a block in bytes (document 01, "Sample blocks").
+/// The length of a block in bytes (the customer's scope, "Sample blocks").
 pub const LENGTH: usize = 512;
 
-/// The most samples that a block carries (document 01, "Sample blocks").
+/// The most samples that a block carries (the customer's scope, "Sample blocks").
 pub const MOST: usize = 248;
 
-/// Where the samples begin (document 01, "Sample blocks").
+/// Where the samples begin (the customer's scope, "Sample blocks").
 pub const FIRST_SAMPLE: usize = 12;
 
-/// Where the check words begin (document 01, "Sample blocks").
+/// Where the check words begin (the customer's scope, "Sample blocks").
 pub const CHECK: usize = 508;
 
-/// The two-byte number at a byte (document 01, "Sample blocks").
+/// The two-byte number at a byte (the customer's scope, "Sample blocks").
 fn word(bytes: &[u8], at: usize) -> u64 {
     u64::from(bytes[at]) + 256 * u64::from(bytes[at + 1])
 }
 
-/// The kind (document 01, "Sample blocks").
+/// The kind (the customer's scope, "Sample blocks").
 fn kind(bytes: &[u8]) -> u8 {
     bytes[0]
 }
 
-/// The rate code (document 01, "Sample blocks").
+/// The rate code (the customer's scope, "Sample blocks").
 pub fn code(bytes: &[u8]) -> u32 {
     u32::from(bytes[1])
 }
 
-/// The count of samples (document 01, "Sample blocks").
+/// The count of samples (the customer's scope, "Sample blocks").
 pub fn count(bytes: &[u8]) -> usize {
     word(bytes, 2) as usize
 }
 
-/// The number of samples before the block (document 01, "Sample blocks").
+/// The number of samples before the block (the customer's scope, "Sample blocks").
 pub fn before(bytes: &[u8]) -> u64 {
     (0..8).map(|i| u64::from(bytes[4 + i]) << (8 * i)).sum()
 }
 
-/// The two right check words of bytes 0 to 507 (document 01, "Sample blocks").
+/// The two right check words of bytes 0 to 507 (the customer's scope, "Sample blocks").
 pub fn check_words(bytes: &[u8]) -> (u64, u64) {
     let mut sum = 0;
     let mut weighted = 0;
@@ -51,37 +51,37 @@ pub fn check_words(bytes: &[u8]) -> (u64, u64) {
     (sum % 65535, weighted % 65535)
 }
 
-/// Refusal 4: not 512 bytes long (document 01, "Why a call is refused").
+/// Refusal 4: not 512 bytes long (the customer's scope, "Why a call is refused").
 fn refusal_4(bytes: &[u8]) -> bool {
     bytes.len() != LENGTH
 }
 
-/// Refusal 5: a check word is not the right one (document 01, "Why a call is refused").
+/// Refusal 5: a check word is not the right one (the customer's scope, "Why a call is refused").
 fn refusal_5(bytes: &[u8]) -> bool {
     (word(bytes, 508), word(bytes, 510)) != check_words(bytes)
 }
 
-/// Refusal 6: the kind (document 01, "Why a call is refused").
+/// Refusal 6: the kind (the customer's scope, "Why a call is refused").
 fn refusal_6(bytes: &[u8]) -> bool {
     kind(bytes) != 1
 }
 
-/// Refusal 7: the rate code is not the one wanted (document 01, "Why a call is refused").
+/// Refusal 7: the rate code is not the one wanted (the customer's scope, "Why a call is refused").
 fn refusal_7(bytes: &[u8], wanted: u32) -> bool {
     code(bytes) != wanted
 }
 
-/// Refusal 8: the count is not 1 to 248 (document 01, "Why a call is refused").
+/// Refusal 8: the count is not 1 to 248 (the customer's scope, "Why a call is refused").
 fn refusal_8(bytes: &[u8]) -> bool {
     count(bytes) < 1 || count(bytes) > MOST
 }
 
-/// Refusal 9: an unused byte is not zero (document 01, "Why a call is refused").
+/// Refusal 9: an unused byte is not zero (the customer's scope, "Why a call is refused").
 fn refusal_9(bytes: &[u8]) -> bool {
     (FIRST_SAMPLE..CHECK).any(|at| at >= FIRST_SAMPLE + 2 * count(bytes) && bytes[at] != 0)
 }
 
-/// The lowest of 4 to 9 that applies, else 0 (document 01, "Why a call is refused").
+/// The lowest of 4 to 9 that applies, else 0 (the customer's scope, "Why a call is refused").
 pub fn refusal(bytes: &[u8], wanted: u32) -> u32 {
     if refusal_4(bytes) {
         4
@@ -100,7 +100,7 @@ pub fn refusal(bytes: &[u8], wanted: u32) -> u32 {
     }
 }
 
-/// Whether a block is sound (document 01, "Sample blocks").
+/// Whether a block is sound (the customer's scope, "Sample blocks").
 pub fn sound(bytes: &[u8]) -> bool {
     !refusal_4(bytes)
         && !refusal_5(bytes)
@@ -110,7 +110,7 @@ pub fn sound(bytes: &[u8]) -> bool {
         && rate(code(bytes)).is_some()
 }
 
-/// The part that carries the samples, empty for an unsound block (document 01, "Sample blocks").
+/// The part that carries the samples, empty for an unsound block (the customer's scope, "Sample blocks").
 pub fn part(bytes: &[u8]) -> &[u8] {
     if sound(bytes) {
         &bytes[FIRST_SAMPLE..FIRST_SAMPLE + 2 * count(bytes)]
@@ -119,7 +119,7 @@ pub fn part(bytes: &[u8]) -> &[u8] {
     }
 }
 
-/// The samples of that part, in order (document 01, "Sample blocks").
+/// The samples of that part, in order (the customer's scope, "Sample blocks").
 pub fn samples(bytes: &[u8]) -> Vec<i16> {
     part(bytes)
         .chunks(2)
@@ -127,7 +127,7 @@ pub fn samples(bytes: &[u8]) -> Vec<i16> {
         .collect()
 }
 
-/// What the host written in C is told (document 01, "Sample blocks").
+/// What the host written in C is told (the customer's scope, "Sample blocks").
 pub fn host(given: u32, bytes: &[u8]) -> u32 {
     if rate(given).is_none() {
         1
@@ -136,14 +136,14 @@ pub fn host(given: u32, bytes: &[u8]) -> u32 {
     }
 }
 
-/// Writes the right check words into 512 bytes (document 01, "Sample blocks").
+/// Writes the right check words into 512 bytes (the customer's scope, "Sample blocks").
 pub fn seal(bytes: &mut [u8]) {
     let (sum, weighted) = check_words(bytes);
     bytes[508..510].copy_from_slice(&(sum as u16).to_le_bytes());
     bytes[510..512].copy_from_slice(&(weighted as u16).to_le_bytes());
 }
 
-/// A sealed block of 1 to 248 samples (document 01, "Sample blocks").
+/// A sealed block of 1 to 248 samples (the customer's scope, "Sample blocks").
 pub fn make(code: u8, before: u64, samples: &[i16]) -> Vec<u8> {
     let mut bytes = vec![0; LENGTH];
     bytes[0] = 1;
@@ -158,7 +158,7 @@ pub fn make(code: u8, before: u64, samples: &[i16]) -> Vec<u8> {
     bytes
 }
 
-/// Sound blocks of all the samples in order, full but for the last (document 01, "Sample blocks").
+/// Sound blocks of all the samples in order, full but for the last (the customer's scope, "Sample blocks").
 pub fn pack(code: u8, samples: &[i16]) -> Vec<u8> {
     let parts = samples.chunks(MOST).enumerate();
     parts

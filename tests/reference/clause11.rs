@@ -171,7 +171,7 @@ impl Case {
 ///
 /// The Recommendation has an activity factor of 0 to 0.5 % and both levels below -60 dBV, for a
 /// meter with some noise of its own. A meter of samples has none: its sum of squares is 0, which
-/// has no level, and document 01's refusal 13 stands for both levels. That nothing is counted at
+/// has no level, and the scope's refusal 13 stands for both levels. That nothing is counted at
 /// any threshold stands for the factor.
 fn no_level(r: u32, measurement: &Measurement) -> (String, bool) {
     let sq = measurement.meter.sq;

@@ -5,14 +5,14 @@ use crate::block;
 use crate::meter::{c, MOST_IN_CHUNK, MOST_SAMPLES};
 use crate::rate::Rate;
 
-/// E's count u and hangover v at a threshold c in units (document 01, "One sample").
+/// E's count u and hangover v at a threshold c in units (the customer's scope, "One sample").
 struct Count {
     c: u64,
     u: u64,
     v: u64,
 }
 
-/// E (document 01, "One sample"), with sq over the samples it took ("The report").
+/// E (the customer's scope, "One sample"), with sq over the samples it took ("The report").
 pub struct Exact {
     rate: &'static Rate,
     pub y: u64,
@@ -24,7 +24,7 @@ pub struct Exact {
     counts: Vec<Count>,
 }
 
-/// Every c_j and c_j + D of a rate (document 01, "One sample").
+/// Every c_j and c_j + D of a rate (the customer's scope, "One sample").
 pub fn thresholds(rate: &Rate) -> Vec<u64> {
     (0..15)
         .map(c)
@@ -33,7 +33,7 @@ pub fn thresholds(rate: &Rate) -> Vec<u64> {
 }
 
 impl Exact {
-    /// E before any call, with the thresholds to count at (document 01, "One sample").
+    /// E before any call, with the thresholds to count at (the customer's scope, "One sample").
     pub fn open(rate: &'static Rate, thresholds: &[u64]) -> Exact {
         let zero = Natural::from(0);
         let counts = thresholds
@@ -50,7 +50,7 @@ impl Exact {
         }
     }
 
-    /// A chunk: whether E accepts it (document 01, "One sample").
+    /// A chunk: whether E accepts it (the customer's scope, "One sample").
     pub fn chunk(&mut self, samples: &[i16]) -> bool {
         let refused = samples.len() > MOST_IN_CHUNK || self.above_most(samples.len());
         if !refused {
@@ -59,7 +59,7 @@ impl Exact {
         !refused
     }
 
-    /// A block: whether E accepts it (document 01, "One sample").
+    /// A block: whether E accepts it (the customer's scope, "One sample").
     pub fn block(&mut self, bytes: &[u8]) -> bool {
         let refused = !block::sound(bytes)
             || block::code(bytes) != u32::from(self.rate.code)
@@ -71,19 +71,19 @@ impl Exact {
         !refused
     }
 
-    /// Whether y and more samples together are above 2^48 (document 01, "One sample").
+    /// Whether y and more samples together are above 2^48 (the customer's scope, "One sample").
     fn above_most(&self, more: usize) -> bool {
         self.y + more as u64 > MOST_SAMPLES
     }
 
-    /// Samples in order (document 01, "One sample").
+    /// Samples in order (the customer's scope, "One sample").
     fn take(&mut self, samples: &[i16]) {
         for &x in samples {
             self.sample(x);
         }
     }
 
-    /// One sample (document 01, "One sample").
+    /// One sample (the customer's scope, "One sample").
     ///
     /// The fractions keep their denominators: p goes from 2^(20 (y - 1)) to 2^(20 y), and q
     /// from 2^(20 y), which is the new p's, to 2^(20 (y + 1)).
@@ -108,7 +108,7 @@ impl Exact {
         }
     }
 
-    /// E's count at a threshold (document 01, "One sample").
+    /// E's count at a threshold (the customer's scope, "One sample").
     fn count(&self, c: u64) -> u64 {
         let found = self.counts.iter().find(|count| count.c == c);
         found.expect("E was opened with this threshold").u
@@ -138,7 +138,7 @@ impl Exact {
     }
 
     /// Demand 3: sq^4096 < 2^(A+2) e^4096, e counted at the lower threshold
-    /// (document 01, "The report").
+    /// (the customer's scope, "The report").
     pub fn level_from_below(&self, A: u64, lower: usize) -> bool {
         let e = self.count(c(lower));
         let sq = Natural::from(self.sq);
@@ -146,7 +146,7 @@ impl Exact {
     }
 
     /// Demand 3: 2^A e'^4096 < 4 sq^4096, e' counted at the upper threshold raised by D
-    /// (document 01, "The report").
+    /// (the customer's scope, "The report").
     pub fn level_from_above(&self, A: u64, upper: usize) -> bool {
         let e = self.count(c(upper) + self.rate.D());
         let sq = Natural::from(self.sq);

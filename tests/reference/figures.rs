@@ -23,7 +23,7 @@ pub fn figures() -> bool {
     tally.finish()
 }
 
-/// The table of rates, and T within its tolerance (document 01, "Rates").
+/// The table of rates, and T within its tolerance (the customer's scope, "Rates").
 fn rates(tally: &mut Tally) {
     let table = [
         (1, 694, 49174, 139, 43),
@@ -41,7 +41,7 @@ fn rates(tally: &mut Tally) {
     }
 }
 
-/// The rows of lev (document 01, "Worked figures"), and the edges of its range.
+/// The rows of lev (the customer's scope, "Worked figures"), and the edges of its range.
 fn levels(tally: &mut Tally) {
     let rows = [
         (1, 0),
@@ -62,7 +62,7 @@ fn levels(tally: &mut Tally) {
     }
 }
 
-/// The rows of one sample (document 01, "Worked figures").
+/// The rows of one sample (the customer's scope, "Worked figures").
 fn samples(tally: &mut Tally) {
     let (meter, r) = Meter::open(2).0.chunk(&[32767]);
     tally.equal(
@@ -75,7 +75,7 @@ fn samples(tally: &mut Tally) {
     tally.equal("-1 at code 2", (r, meter.P, meter.Q), (0, 69760, 290));
 }
 
-/// A meter handed in at code 2, its first a_j given (document 01, "Worked figures").
+/// A meter handed in at code 2, its first a_j given (the customer's scope, "Worked figures").
 fn handed_in(n: u64, sq: u128, a: &[u64]) -> Meter {
     let mut meter = Meter {
         code: 2,
@@ -87,7 +87,7 @@ fn handed_in(n: u64, sq: u128, a: &[u64]) -> Meter {
     meter
 }
 
-/// The rows of reports (document 01, "Worked figures").
+/// The rows of reports (the customer's scope, "Worked figures").
 fn reports(tally: &mut Tally) {
     let full = handed_in(16384, 1 << 30, &[4096; 8]);
     let mut half = full.clone();
@@ -118,7 +118,7 @@ fn reports(tally: &mut Tally) {
     tally.equal("d_0 negative", found, Err(15));
 }
 
-/// The rows of the bounds on n and on a chunk (document 01, "Worked figures").
+/// The rows of the bounds on n and on a chunk (the customer's scope, "Worked figures").
 fn bounds(tally: &mut Tally) {
     let full = handed_in(1 << 48, 0, &[]);
     tally.equal("n 2^48, one sample", full.chunk(&[0]).1, 11);
@@ -128,7 +128,7 @@ fn bounds(tally: &mut Tally) {
     tally.equal("chunk of 4097", fresh.chunk(&[0; 4097]).1, 3);
 }
 
-/// The example of the report program (document 01, "Worked figures"), and inputs at the edges.
+/// The example of the report program (the customer's scope, "Worked figures"), and inputs at the edges.
 fn program(tally: &mut Tally) {
     let example = "samples 1\nsum 32767\nsquares 0 1073676289\n\
                    counts 1 1 1 1 1 1 1 0 0 0 0 0 0 0 0\nrefused 16\n";

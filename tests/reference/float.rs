@@ -1,6 +1,6 @@
-//! Method B of P.56 (clauses 8.2 and 8.3) in floating point, without document 01's rounding.
+//! Method B of P.56 (clauses 8.2 and 8.3) in floating point, without the scope's rounding.
 //!
-//! Of document 01 it takes only the places of the thresholds, at powers of two of the quantizing
+//! Of the scope it takes only the places of the thresholds, at powers of two of the quantizing
 //! interval, and that of several crossings the lowest is used; the Recommendation leaves both open.
 
 use crate::measurement::Levels;

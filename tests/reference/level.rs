@@ -1,6 +1,6 @@
 //! The level logarithm.
 
-/// lev(N) in steps; None where there is no level (document 01, "The level logarithm").
+/// lev(N) in steps; None where there is no level (the customer's scope, "The level logarithm").
 pub fn lev(N: u128) -> Option<u64> {
     if N == 0 || N > 1 << 80 {
         return None;
@@ -21,7 +21,7 @@ pub fn lev(N: u128) -> Option<u64> {
     Some(4096 * b + bits)
 }
 
-/// The place of the highest one bit of an N above 0 (document 01, "The level logarithm").
+/// The place of the highest one bit of an N above 0 (the customer's scope, "The level logarithm").
 fn highest_one_bit(N: u128) -> u64 {
     let mut b = 0;
     while N >> (b + 1) != 0 {

@@ -1,4 +1,4 @@
-//! A second program of document 01's definitions, to test the first one against, with the
+//! A second program of the scope's definitions, to test the first one against, with the
 //! calibration of P.56 and its method B in floating point.
 //!
 //! The names are the document's, capitals among them.

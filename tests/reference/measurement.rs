@@ -4,7 +4,7 @@ use crate::meter::{Meter, Report, MOST_IN_CHUNK};
 use crate::printed;
 use crate::records::Record;
 
-/// A step in decibels: 1/4096 of a doubling of power (document 01, "The level logarithm").
+/// A step in decibels: 1/4096 of a doubling of power (the customer's scope, "The level logarithm").
 pub const STEP: f64 = 10.0 * std::f64::consts::LOG10_2 / 4096.0;
 
 /// What a measurement tells, in decibels; the levels are relative to one quantizing interval.

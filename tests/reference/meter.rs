@@ -4,16 +4,16 @@ use crate::block;
 use crate::level::lev;
 use crate::rate::{rate, Rate};
 
-/// The most samples that a meter counts (document 01, "Why a call is refused").
+/// The most samples that a meter counts (the customer's scope, "Why a call is refused").
 pub const MOST_SAMPLES: u64 = 1 << 48;
 
-/// The most samples in a chunk (document 01, "One sample").
+/// The most samples in a chunk (the customer's scope, "One sample").
 pub const MOST_IN_CHUNK: usize = 4096;
 
-/// The margin in steps (document 01, "The report").
+/// The margin in steps (the customer's scope, "The report").
 const M: i64 = 21635;
 
-/// What a meter holds (document 01, "One sample").
+/// What a meter holds (the customer's scope, "One sample").
 #[derive(Clone)]
 pub struct Meter {
     pub code: u8,
@@ -26,7 +26,7 @@ pub struct Meter {
     pub h: [u64; 15],
 }
 
-/// What a report holds (document 01, "The report").
+/// What a report holds (the customer's scope, "The report").
 #[derive(Clone, Debug, PartialEq)]
 pub struct Report {
     pub n: u64,
@@ -41,23 +41,23 @@ pub struct Report {
     pub upper: usize,
 }
 
-/// Threshold c_j in units (document 01, "One sample").
+/// Threshold c_j in units (the customer's scope, "One sample").
 pub fn c(j: usize) -> u64 {
     1 << (j + 24)
 }
 
-/// lev, signed for differences (document 01, "The level logarithm").
+/// lev, signed for differences (the customer's scope, "The level logarithm").
 fn steps(N: u128) -> Option<i64> {
     lev(N).map(|level| level as i64)
 }
 
-/// C_j (document 01, "The report").
+/// C_j (the customer's scope, "The report").
 fn C_(j: usize) -> i64 {
     8192 * j as i64
 }
 
 impl Meter {
-    /// The meter of all zeros (document 01, "Why a call is refused").
+    /// The meter of all zeros (the customer's scope, "Why a call is refused").
     pub fn zero() -> Meter {
         Meter {
             code: 0,
@@ -71,7 +71,7 @@ impl Meter {
         }
     }
 
-    /// Opening: the fresh meter, or refusal 1 (document 01, "One sample", "Why a call is refused").
+    /// Opening: the fresh meter, or refusal 1 (the customer's scope, "One sample", "Why a call is refused").
     pub fn open(code: u8) -> (Meter, u32) {
         match rate(u32::from(code)) {
             Some(rate) => (
@@ -86,7 +86,7 @@ impl Meter {
         }
     }
 
-    /// A chunk: the meter handed back and 0 or the refusal (document 01, "One sample").
+    /// A chunk: the meter handed back and 0 or the refusal (the customer's scope, "One sample").
     pub fn chunk(&self, samples: &[i16]) -> (Meter, u32) {
         let r = self.chunk_refusal(samples);
         if r == 0 {
@@ -96,7 +96,7 @@ impl Meter {
         }
     }
 
-    /// A block: the meter handed back and 0 or the refusal (document 01, "Sample blocks").
+    /// A block: the meter handed back and 0 or the refusal (the customer's scope, "Sample blocks").
     pub fn block(&self, bytes: &[u8]) -> (Meter, u32) {
         let r = self.block_refusal(bytes);
         if r == 0 {
@@ -106,7 +106,7 @@ impl Meter {
         }
     }
 
-    /// The lowest refusal of a chunk, else 0 (document 01, "Why a call is refused").
+    /// The lowest refusal of a chunk, else 0 (the customer's scope, "Why a call is refused").
     fn chunk_refusal(&self, samples: &[i16]) -> u32 {
         if self.refusal_2() {
             2
@@ -119,7 +119,7 @@ impl Meter {
         }
     }
 
-    /// The lowest refusal of a block, else 0 (document 01, "Why a call is refused").
+    /// The lowest refusal of a block, else 0 (the customer's scope, "Why a call is refused").
     fn block_refusal(&self, bytes: &[u8]) -> u32 {
         if self.refusal_2() {
             return 2;
@@ -136,7 +136,7 @@ impl Meter {
         }
     }
 
-    /// Refusal 2: no measurement could hold this (document 01, "Why a call is refused").
+    /// Refusal 2: no measurement could hold this (the customer's scope, "Why a call is refused").
     pub fn refusal_2(&self) -> bool {
         let Some(rate) = rate(u32::from(self.code)) else {
             return true;
@@ -153,12 +153,12 @@ impl Meter {
             || (1..15).any(|j| self.h[j] < self.h[j - 1])
     }
 
-    /// Refusal 11: too many samples together (document 01, "Why a call is refused").
+    /// Refusal 11: too many samples together (the customer's scope, "Why a call is refused").
     fn refusal_11(&self, more: usize) -> bool {
         u128::from(self.n) + more as u128 > u128::from(MOST_SAMPLES)
     }
 
-    /// The meter after samples in order (document 01, "One sample").
+    /// The meter after samples in order (the customer's scope, "One sample").
     fn after(&self, samples: &[i16]) -> Meter {
         let rate = rate(u32::from(self.code)).expect("refusal 2 is past");
         let mut meter = self.clone();
@@ -168,7 +168,7 @@ impl Meter {
         meter
     }
 
-    /// One sample (document 01, "One sample").
+    /// One sample (the customer's scope, "One sample").
     fn sample(&mut self, rate: &Rate, x: i16) {
         let K = u128::from(rate.K);
         self.n += 1;
@@ -190,23 +190,23 @@ impl Meter {
         }
     }
 
-    /// L where n and sq are above 0 (document 01, "The report").
+    /// L where n and sq are above 0 (the customer's scope, "The report").
     fn L(&self) -> Option<i64> {
         Some(steps(self.sq)? - steps(u128::from(self.n))?)
     }
 
-    /// A_j where j is one of 0 to 14 and sq and a_j are above 0 (document 01, "The report").
+    /// A_j where j is one of 0 to 14 and sq and a_j are above 0 (the customer's scope, "The report").
     fn A_(&self, j: usize) -> Option<i64> {
         let a_j = *self.a.get(j)?;
         Some(steps(self.sq)? - steps(u128::from(a_j))?)
     }
 
-    /// d_j where there is an A_j (document 01, "The report").
+    /// d_j where there is an A_j (the customer's scope, "The report").
     pub fn d(&self, j: usize) -> Option<i64> {
         self.A_(j).map(|A_j| A_j - C_(j) - M)
     }
 
-    /// Whether a crossing is at j (document 01, "The report").
+    /// Whether a crossing is at j (the customer's scope, "The report").
     pub fn crossing_at(&self, j: usize) -> bool {
         let Some(d_j) = self.d(j) else {
             return false;
@@ -215,12 +215,12 @@ impl Meter {
         d_j == 0 || falls
     }
 
-    /// Whether the crossing at j is the one used: none is lower (document 01, "The report").
+    /// Whether the crossing at j is the one used: none is lower (the customer's scope, "The report").
     pub fn uses_crossing(&self, j: usize) -> bool {
         (0..j).all(|lower| !self.crossing_at(lower))
     }
 
-    /// A and the lower and upper j at a crossing (document 01, "The report").
+    /// A and the lower and upper j at a crossing (the customer's scope, "The report").
     fn active(&self, j: usize) -> Option<(i64, usize, usize)> {
         let (A_j, d_j) = (self.A_(j)?, self.d(j)?);
         if d_j == 0 {
@@ -231,7 +231,7 @@ impl Meter {
         Some((A_before + rise, j - 1, j))
     }
 
-    /// The report at j, where a crossing is there (document 01, "The report").
+    /// The report at j, where a crossing is there (the customer's scope, "The report").
     pub fn report_at(&self, j: usize) -> Option<Report> {
         if !self.crossing_at(j) {
             return None;
@@ -252,7 +252,7 @@ impl Meter {
         })
     }
 
-    /// The report, or its lowest refusal (document 01, "The report", "Why a call is refused").
+    /// The report, or its lowest refusal (the customer's scope, "The report", "Why a call is refused").
     pub fn report(&self) -> Result<Report, u32> {
         if self.refusal_2() {
             return Err(2);

@@ -1,6 +1,6 @@
 //! The three named rates.
 
-/// One row of the table of rates (document 01, "Rates").
+/// One row of the table of rates (the customer's scope, "Rates").
 pub struct Rate {
     pub code: u8,
     pub samples_per_second: u64,
@@ -8,7 +8,7 @@ pub struct Rate {
     pub I: u64,
 }
 
-/// The table itself (document 01, "Rates"); D is left to its rule.
+/// The table itself (the customer's scope, "Rates"); D is left to its rule.
 pub const RATES: [Rate; 3] = [
     Rate {
         code: 1,
@@ -30,23 +30,23 @@ pub const RATES: [Rate; 3] = [
     },
 ];
 
-/// The rate that a code names, if it names one (document 01, "Rates").
+/// The rate that a code names, if it names one (the customer's scope, "Rates").
 pub fn rate(code: u32) -> Option<&'static Rate> {
     RATES.iter().find(|rate| u32::from(rate.code) == code)
 }
 
 impl Rate {
-    /// D by its rule: 2^21/K, rounded up (document 01, "Rates").
+    /// D by its rule: 2^21/K, rounded up (the customer's scope, "Rates").
     pub fn D(&self) -> u64 {
         (1u64 << 21).div_ceil(self.K)
     }
 
-    /// I by its rule: 0.2 s in samples, rounded up (document 01, "Rates").
+    /// I by its rule: 0.2 s in samples, rounded up (the customer's scope, "Rates").
     pub fn I_by_rule(&self) -> u64 {
         self.samples_per_second.div_ceil(5)
     }
 
-    /// Whether K keeps T within 5 % of 0.03 s (document 01, "Rates").
+    /// Whether K keeps T within 5 % of 0.03 s (the customer's scope, "Rates").
     ///
     /// P.56 has g = exp(-1/(f T)), so the T that belongs to g = 1 - K/2^20 is -1/(f ln g).
     pub fn keeps_time_constant(&self) -> bool {

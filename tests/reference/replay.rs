@@ -86,7 +86,7 @@ pub fn replay(bytes: &[u8]) -> String {
 
 /// A line with the total length of the accepted calls; None where the script has a bad record.
 ///
-/// n grows by a call's samples just where the call is accepted (document 01, "One sample").
+/// n grows by a call's samples just where the call is accepted (the customer's scope, "One sample").
 pub fn accepted_samples(script: &[u8]) -> Option<String> {
     let (records, bad) = read(script);
     let mut player = Player::new();

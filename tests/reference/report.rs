@@ -5,12 +5,12 @@ use crate::meter::Meter;
 use crate::rate::{Rate, RATES};
 use crate::records::words;
 
-/// The rate it measures at, code 1 (document 01, "Worked figures").
+/// The rate it measures at, code 1 (the customer's scope, "Worked figures").
 pub const RATE: &Rate = &RATES[0];
 
 /// What it prints for an input: the refused blocks, then the measurement.
 ///
-/// A short last block counts as one and is handed on as it is (document 01, "Worked figures").
+/// A short last block counts as one and is handed on as it is (the customer's scope, "Worked figures").
 pub fn report(input: &[u8]) -> String {
     let (mut meter, _) = Meter::open(RATE.code);
     let mut lines = String::new();
@@ -24,7 +24,7 @@ pub fn report(input: &[u8]) -> String {
     lines + &measurement(&meter)
 }
 
-/// The five lines at the end (document 01, "Worked figures").
+/// The five lines at the end (the customer's scope, "Worked figures").
 fn measurement(meter: &Meter) -> String {
     let (high, low) = words(meter.sq);
     let counts = meter.a.map(|a_j| a_j.to_string()).join(" ");

@@ -1,4 +1,4 @@
--- Sample blocks: document 01, "Sample blocks". A block is a list of bytes, of any length: what lies past its end reads as 0.
+-- Sample blocks: METHOD.md, "Sample blocks". A block is a list of bytes, of any length: what lies past its end reads as 0.
 use mathlib.Core.Bool.{cond}
 use mathlib.Core.List.{List, [], _∷_, _++_}
 use Prim.Native.Nat.{ℕ, zero, suc, _+_, _-_, _*_, _/_, _%_, _^_, min}

@@ -1,4 +1,4 @@
--- Why a block is refused, and which part of it carries samples: document 01, "Sample blocks" and "Why a call is refused". Each condition has a
+-- Why a block is refused, and which part of it carries samples: METHOD.md, "Sample blocks" and "Why a call is refused". Each condition has a
 -- meaning for every list of bytes.
 use mathlib.Core.Bool.{Bool, true, cond, not, _&&_}
 use mathlib.Core.List.{List, [], _∷_}

@@ -1,4 +1,4 @@
-// Sample blocks (document 01, "Sample blocks"): why one is refused, the part that carries its
+// Sample blocks (METHOD.md, "Sample blocks"): why one is refused, the part that carries its
 // samples, the check that the line host calls, and numbers and samples from bytes.
 mod checks;
 mod fields;

@@ -1,4 +1,4 @@
--- The levels of a report, in steps: document 01, "The report". M is the margin, S is lev(sq), and a the activity counts.
+-- The levels of a report, in steps: METHOD.md, "The report". M is the margin, S is lev(sq), and a the activity counts.
 use mathlib.Core.List.{List}
 use Prim.Native.Nat.{ℕ, _*_}
 use lib.IntN.{ℤ, pos, _-ℤ_}

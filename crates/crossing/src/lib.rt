@@ -1,4 +1,4 @@
-// The levels of a report (document 01, "The report"): the crossing, and the active level at it.
+// The levels of a report (METHOD.md, "The report"): the crossing, and the active level at it.
 mod interpolation;
 mod lowest;
 mod steps;

@@ -1,4 +1,4 @@
--- Demand 3: `demand3`. After any list of calls the meter and E are tied, and each clause reads one part of the tie; the report is document 01's by
+-- Demand 3: `demand3`. After any list of calls the meter and E are tied, and each clause reads one part of the tie; the report is METHOD.md's by
 -- `answered`, and the level clauses are the bounds of any crossing, with the counts' orders put in.
 use mathlib.Core.Bool.{Bool, true, false, cond}
 use mathlib.Core.List.{List, [], _∷_}

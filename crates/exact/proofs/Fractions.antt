@@ -1,4 +1,4 @@
--- E's numerators stand for fractions that obey document 01's recurrence: the denominators grow by 2^20 with each sample, and what is left is ring
+-- E's numerators stand for fractions that obey METHOD.md's recurrence: the denominators grow by 2^20 with each sample, and what is left is ring
 -- arithmetic.
 use mathlib.Core.Path.{_≡_, ap, _∙_}
 use Prim.Native.Nat.{ℕ, _+_, _-_, _*_, _^_}

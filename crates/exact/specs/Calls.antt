@@ -1,4 +1,4 @@
--- Calls: document 01, "One sample". What a call is given beside the meter, what its types say of that, and the samples that it brings.
+-- Calls: METHOD.md, "One sample". What a call is given beside the meter, what its types say of that, and the samples that it brings.
 use mathlib.Core.List.{List, [], _∷_}
 use Prim.Native.Nat.{ℕ}
 use lib.IntN.{ℤ}

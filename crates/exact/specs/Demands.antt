@@ -1,5 +1,6 @@
 -- The whole claim: the customer's three demands, each a record with a field for each clause of its sentence, and `Claim`, that all three hold. What
--- only the check of the code can show stands as a comment that names the contracts.
+-- only the check of the code can show stands as a comment that names the contracts. What is in quotes are his words; his "document 01" is the scope
+-- that docs/METHOD.md states.
 use mathlib.Core.Bool.{Bool, false}
 use mathlib.Core.List.{List, [], _∷_}
 use mathlib.Core.Logic.{_↔_}
@@ -101,12 +102,12 @@ pub record Demand1 : Type 0 where
 -- ---- demand 2: "Nothing reported may differ from method B"
 
 pub record Demand2 : Type 0 where
-  -- "sums, envelope, counts": opening gives the fresh meter, and after a list of calls the meter is the one that document 01's formulas lead to over
+  -- "sums, envelope, counts": opening gives the fresh meter, and after a list of calls the meter is the one that METHOD.md's formulas lead to over
   -- the accepted ones' samples, in order, however they were cut into calls
   pub opened : (c : Setting) → Opens c → Fresh c (openCall c .meter)
   pub measured : (c : Setting) (calls : List Call) → Opens c
       → meterAfter c calls ≡ record { setting = c; state = stateAfter (countingOf c) (freshState (iOf c)) (takenFrom c calls) }
-  -- "crossing, levels and factor": a report on any meter that 2 lets pass is document 01's; F is never above 0
+  -- "crossing, levels and factor": a report on any meter that 2 lets pass is the one of METHOD.md; F is never above 0
   pub reported : (m : Meter) → impossible m ≡ false → Answered m (reportCall m .number) (reportCall m .report)
   pub factor : (m : Meter) → reportCall m .number ≡ 0 → ltZ (pos 0) (reportCall m .report .levels .factor .0) ≡ false
   -- "a sample block is taken exactly when it breaks none of the rules"; taken, its samples are

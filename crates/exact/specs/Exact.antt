@@ -1,4 +1,4 @@
--- E, the plain machine of demand 3: document 01, "One sample". It is fed the rate code of the setting and the calls' arguments, and nothing of the
+-- E, the plain machine of demand 3: METHOD.md, "The exact machine E". It is fed the rate code of the setting and the calls' arguments, and nothing of the
 -- meter.
 use mathlib.Core.Bool.{Bool, cond, _&&_}
 use mathlib.Core.List.{List, [], _∷_, _++_}

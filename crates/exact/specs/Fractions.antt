@@ -1,4 +1,4 @@
--- E's fractions p and q, and document 01's recurrence for them ("One sample"). E holds numerators; this is what they stand for.
+-- E's fractions p and q, and METHOD.md's recurrence for them ("The exact machine E"). E holds numerators; this is what they stand for.
 use mathlib.Core.Path.{_≡_}
 use Prim.Native.Nat.{ℕ, _+_, _-_, _*_, _^_}
 use lib.IntN.{ℤ, natAbs}

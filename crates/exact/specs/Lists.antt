@@ -1,4 +1,4 @@
--- What the meter makes of a list of calls: document 01, "One sample". Each call is given what the one before handed back.
+-- What the meter makes of a list of calls: METHOD.md, "One sample". Each call is given what the one before handed back.
 use mathlib.Core.Bool.{Bool, cond}
 use mathlib.Core.List.{List, [], _∷_, _++_}
 use lib.Dec.{eqb}

@@ -1,2 +1,2 @@
-// The plain machine E and demand 3 (document 01, "One sample" and "The report"): definitions and
+// The plain machine E and demand 3 (METHOD.md, "One sample" and "The report"): definitions and
 // proofs alone.

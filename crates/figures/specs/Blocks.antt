@@ -1,4 +1,4 @@
--- The blocks of rows, each made of its fields: document 01, "Sample blocks". The check words are given, and not worked out here.
+-- The blocks of rows, each made of its fields: METHOD.md, "Sample blocks". The check words are given, and not worked out here.
 use mathlib.Core.List.{List, [], _∷_, _++_}
 use Prim.Native.Nat.{ℕ, zero, suc, _-_, _*_, _/_, _%_, _^_}
 use lib.ListN.{length, replicate}

@@ -1,4 +1,4 @@
--- The worked figures. Those of document 01, "Worked figures", come first; then our own, for what no row of the document tells apart.
+-- The worked figures. Those of METHOD.md, "Worked figures", come first; then our own, for what those do not tell apart.
 use mathlib.Core.List.{List, [], _∷_, _++_}
 use Prim.Native.Nat.{ℕ, _+_, _-_, _*_, _^_}
 use lib.IntN.{ℤ, pos, negsuc}
@@ -63,7 +63,7 @@ table =
     ∷ reported 16384 (2 ^ 30) (replicate 7 4096 ++ (2048 ∷ replicate 7 0)) (record { L = pos 65536; A = pos 76669; C = pos 55034; F = minus 11133; lower = 6; upper = 7 })
     ∷ reported 32768 1275068 (first 1 32768) (record { L = pos 21635; A = pos 21635; C = pos 0; F = pos 0; lower = 0; upper = 0 })
     ∷ refused 32768 (2 ^ 20) (first 1 32768) 15
-    -- document 01's rows without a P
+    -- those of the customer's rows that he has run, not proved
     ∷ answered (withN (2 ^ 48) plain) (chunk (pos 1 ∷ []) ∷ chunk [] ∷ []) (11 ∷ 0 ∷ [])
     ∷ answered (freshAt 2) (chunk (replicate 4097 (pos 0)) ∷ chunk (replicate 4096 (pos 0)) ∷ []) (3 ∷ 0 ∷ [])
     -- the ends of lev's range, and past them

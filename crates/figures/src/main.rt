@@ -1,4 +1,4 @@
-// Document 01's worked figures, run: those that the table of this crate does not prove, and the reports
+// The customer's worked figures, run: those that the table of this crate does not prove, and the reports
 // once more.
 ghost use mathlib.Core.Path.{_≡_};
 ghost use lib.ListN.{length};

@@ -1,4 +1,4 @@
--- The top 32 bits of a number of one word or two, as shifts take them, are document 01's m; and the answers that the code gives.
+-- The top 32 bits of a number of one word or two, as shifts take them, are METHOD.md's m; and the answers that the code gives.
 use mathlib.Core.Path.{_≡_, refl, sym, ap, ap₂, _∙_, subst}
 use Prim.Native.Nat.{ℕ, suc, _+_, _-_, _*_, _/_, _%_, _^_, _≤_, _<_}
 use native.Mathlib.Nat.{le-trans, le-of-eq, lt-of-le-of-lt, lt-of-lt-of-le, mul-le-mul-right, mul-assoc, mul-comm, mul-right-comm, add-mul, mul-div-mul-right, mul-add-div-right, le-add-right}

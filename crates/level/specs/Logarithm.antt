@@ -1,4 +1,4 @@
--- The level logarithm: document 01, "The level logarithm".
+-- The level logarithm: METHOD.md, "The level logarithm".
 use mathlib.Core.Bool.{cond, _&&_}
 use mathlib.Core.Option.{Option, none, some}
 use Prim.Native.Nat.{ℕ, zero, suc, _+_, _*_, _/_, _^_, _≤_, _<_}

@@ -1,4 +1,4 @@
-// The level logarithm (document 01, "The level logarithm"), and the types that keep counts of
+// The level logarithm (METHOD.md, "The level logarithm"), and the types that keep counts of
 // samples and levels in steps apart: only the logarithm leads from the one to the other.
 mod sums;
 

@@ -1,4 +1,4 @@
--- What a report call hands back on a meter that refusal 2 lets pass, case by case in the order of testing; and that it is document 01's report:
+-- What a report call hands back on a meter that refusal 2 lets pass, case by case in the order of testing; and that it is the report of METHOD.md:
 -- `answered`.
 use mathlib.Core.Bool.{Bool, true, false, cond, _&&_}
 use mathlib.Core.List.{List, [], _∷_}
@@ -125,7 +125,7 @@ module _ (m : Meter) (t : Tested m) where
         none-lower = λ i l c. absurd (subst T (sym (c .crosses) ∙ f .none-lower i (omega arith) l) tt);
       }
 
--- ---- document 01's report
+-- ---- the report of METHOD.md
 
 zero-report : AllZero noReport
 unfolding noReport noLevels words listFrom

@@ -1,4 +1,4 @@
--- Document 01's report on a meter, as a relation between the meter and what is answered: "The report" and "Why a call is refused". It says what is
+-- The report on a meter, as a relation between the meter and what is answered: "The report" and "Why a call is refused". It says what is
 -- reported, and nothing of how a crossing is searched for.
 use mathlib.Core.Bool.{true}
 use mathlib.Core.Path.{_≡_}
@@ -64,7 +64,7 @@ pub record Active (m : Meter) : Type 0 where
   pub sq : 0 < twoWords (m .state .sums .sq)
   pub a : 0 < activity (m .state .a) 0
 
--- the number and the report that are document 01's answer to a report call on a meter, where 2 does not apply
+-- the number and the report that are the answer to a report call on a meter, where 2 does not apply
 pub data Answered (m : Meter) : ℕ → Report → Type 0 where
   -- 12: n = 0
   no-samples : (r : Report) → AllZero r → m .state .sums .n .0 ≡ 0 → Answered m 12 r

@@ -1,4 +1,4 @@
--- What each call hands back: document 01, "One sample", "The report" and "Why a call is refused".
+-- What each call hands back: METHOD.md, "One sample", "The report" and "Why a call is refused".
 use mathlib.Core.Bool.{cond}
 use mathlib.Core.List.{List}
 use Prim.Native.Nat.{ℕ}

@@ -1,4 +1,4 @@
--- The meter that opening hands back, field by field: document 01, "One sample" and "Why a call is refused".
+-- The meter that opening hands back, field by field: METHOD.md, "One sample" and "Why a call is refused".
 use mathlib.Core.Path.{_≡_}
 use Prim.Native.Nat.{ℕ}
 use lib.IntN.{pos}

@@ -1,4 +1,4 @@
--- Why a call is refused: document 01, "Why a call is refused". Each condition under its own name; the lists are in the order of testing.
+-- Why a call is refused: METHOD.md, "Why a call is refused". Each condition under its own name; the lists are in the order of testing.
 use mathlib.Core.Bool.{Bool, false, not, _&&_, _||_}
 use mathlib.Core.List.{List, [], _∷_, _++_}
 use Prim.Native.Nat.{ℕ, zero, suc, _+_, _*_, _^_}

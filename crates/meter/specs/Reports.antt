@@ -1,4 +1,4 @@
--- The report on a meter: document 01, "The report", and its refusals.
+-- The report on a meter: METHOD.md, "The report", and its refusals.
 use mathlib.Core.Bool.{Bool, true, false, _&&_}
 use mathlib.Core.List.{List, [], _∷_}
 use mathlib.Core.Option.{Option, none, some}

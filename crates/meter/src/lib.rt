@@ -1,4 +1,4 @@
-// The meter's calls (document 01, "One sample", "The report" and "Why a call is refused"): what each
+// The meter's calls (METHOD.md, "One sample", "The report" and "Why a call is refused"): what each
 // hands back.
 mod feeding;
 mod opening;

@@ -1,4 +1,4 @@
--- The named rates: document 01, "Rates".
+-- The named rates: METHOD.md, "Rates".
 use mathlib.Core.Bool.{Bool, true, false, cond}
 use mathlib.Core.Option.{Option, none, some, Option·getD}
 use Prim.Native.Nat.{ℕ, _*_, _^_, _≤_}

@@ -1,4 +1,4 @@
-// The named rates (document 01, "Rates").
+// The named rates (METHOD.md, "Rates").
 ghost use mathlib.Core.Path.{_≡_};
 ghost use Rattle.rate.specs.Rates.{named, rateOf, isNamed};
 

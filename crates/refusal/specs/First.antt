@@ -1,4 +1,4 @@
--- Which number is given: document 01, "Why a call is refused". A call has a list of rules in their order of testing, and the first that applies
+-- Which number is given: METHOD.md, "Why a call is refused". A call has a list of rules in their order of testing, and the first that applies
 -- decides.
 use mathlib.Core.Bool.{Bool, true, false, cond, _&&_, _||_}
 use mathlib.Core.List.{List, [], _∷_, _++_}

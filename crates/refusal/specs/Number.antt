@@ -1,4 +1,4 @@
--- The numbers of document 01, "Why a call is refused".
+-- The numbers of METHOD.md, "Why a call is refused".
 use Prim.Native.Nat.{ℕ}
 use Rattle.refusal.specs.declared.Refusal.{Refusal}
 use Rattle.refusal.specs.declared.Answer.{Answer}

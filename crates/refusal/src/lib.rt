@@ -1,4 +1,4 @@
-// Why a call is refused (document 01, "Why a call is refused"): one list for the whole project.
+// Why a call is refused (METHOD.md, "Why a call is refused"): one list for the whole project.
 ghost use mathlib.Core.Path.{_≡_};
 ghost use Rattle.refusal.specs.Number.{numberOf, numberGiven};
 

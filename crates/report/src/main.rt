@@ -1,4 +1,4 @@
-// The report program (document 01, "Worked figures"): measures sample blocks of rate code 1 from standard
+// The report program (METHOD.md, "Worked figures"): measures sample blocks of rate code 1 from standard
 // input. A refused block has its line as it is read; at the end come five lines about the measurement.
 // Where not all of the input could be read, or not all lines written, standard error says so, and the
 // five lines are not printed.

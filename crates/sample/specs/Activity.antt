@@ -1,4 +1,4 @@
--- Count and hangover at one threshold, after a sample: document 01, "One sample". `on` says whether Q is at or above the threshold.
+-- Count and hangover at one threshold, after a sample: METHOD.md, "One sample". `on` says whether Q is at or above the threshold.
 use mathlib.Core.Bool.{Bool, cond}
 use Prim.Native.Nat.{ℕ, _+_}
 use lib.Dec.{ltb}

@@ -1,4 +1,4 @@
--- The envelope and its thresholds: document 01, "One sample".
+-- The envelope and its thresholds: METHOD.md, "One sample".
 use Prim.Native.Nat.{ℕ, _+_, _-_, _*_, _/_, _^_}
 use lib.IntN.{ℤ, natAbs}
 

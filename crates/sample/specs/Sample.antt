@@ -1,4 +1,4 @@
--- A sample, and samples in order: document 01, "One sample".
+-- A sample, and samples in order: METHOD.md, "One sample".
 use mathlib.Core.List.{List, [], _∷_}
 use Prim.Native.Nat.{ℕ, zero, suc, _+_, _*_, _^_}
 use lib.Dec.{leb}

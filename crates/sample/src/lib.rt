@@ -1,4 +1,4 @@
-// One sample (document 01, "One sample"): what samples change of a meter.
+// One sample (METHOD.md, "One sample"): what samples change of a meter.
 //
 // The definition counts at every sample. The code counts by runs: while the envelope stays between
 // two neighbouring thresholds no test changes its answer, so only the sums are stepped. Where it

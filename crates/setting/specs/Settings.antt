@@ -1,4 +1,4 @@
--- The figures that a setting stands for: document 01, "Rates".
+-- The figures that a setting stands for: METHOD.md, "Rates".
 use Prim.Native.Nat.{ℕ}
 use Rattle.rate.specs.Rates.{rowOf}
 use Rattle.setting.specs.declared.Setting.{Setting}
