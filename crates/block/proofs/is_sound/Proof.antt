@@ -12,24 +12,9 @@ use Rattle.block.proofs.is_sound.Tie as tie
 returns : tie.Need-returns
 returns c = sym (unsound-length _ (c .if1 .taken))
 
-rate-code-requires : tie.Need-rate-code-requires
-rate-code-requires c κs = search needs
-
-is-named-requires : tie.Need-is-named-requires
-is-named-requires c κs = search needs
-
 returns-2 : tie.Need-returns-2
 returns-2 c =
     sym (unsound-rate _ (ap isNamed (sym (c .before .before .rate-code .ensures)) ∙ sym (c .before .is-named .ensures) ∙ not-true _ (c .if2 .taken)))
-
-refused-requires : tie.Need-refused-requires
-refused-requires c κs = search needs
-
-enum-told : tie.Need-enum-told
-enum-told c = search needs
-
-enum-told-2 : tie.Need-enum-told-2
-enum-told-2 c = search needs
 
 returns-3 : tie.Need-returns-3
 returns-3 c =
@@ -48,11 +33,11 @@ is-sound-spec =
     tie.close
     (tie.spec
     returns
-    rate-code-requires
-    is-named-requires
+    (λ c κs. search needs)
+    (λ c κs. search needs)
     returns-2
-    refused-requires
-    enum-told
-    enum-told-2
+    (λ c κs. search needs)
+    (λ c. search needs)
+    (λ c. search needs)
     returns-3
     returns-4)

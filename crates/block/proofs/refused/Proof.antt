@@ -31,17 +31,11 @@ returns : tie.Need-returns
 unfolding blockRules
 returns c = here _ _ _ (length-off _ (c .if1 .taken))
 
-checked-requires : tie.Need-checked-requires
-checked-requires c κs = search needs
-
 returns-2 : tie.Need-returns-2
 unfolding blockRules
 returns-2 c =
     past _ _ _ (length-ok (c .before .before))
     (here _ _ _ (applies _ _ (c .before .checked .ensures) (not-true _ (c .if2 .taken))))
-
-kind-requires : tie.Need-kind-requires
-kind-requires c κs = search needs
 
 returns-3 : tie.Need-returns-3
 unfolding blockRules
@@ -50,9 +44,6 @@ returns-3 c =
     past _ _ _ (length-ok (two .before .before))
     (past _ _ _ (check-ok two)
     (here _ _ _ (kind-off _ (λ e. c .if3 .taken (c .before .kind .ensures ∙ e)))))
-
-rate-code-requires : tie.Need-rate-code-requires
-rate-code-requires c κs = search needs
 
 returns-4 : tie.Need-returns-4
 unfolding blockRules
@@ -63,9 +54,6 @@ returns-4 c =
     (past _ _ _ (check-ok two)
     (past _ _ _ (kind-ok three)
     (here _ _ _ (rate-off _ _ (λ e. c .if4 .taken (c .before .rate-code .ensures ∙ e))))))
-
-refused-count-requires : tie.Need-refused-count-requires
-refused-count-requires c κs = search needs
 
 returns-5 : tie.Need-returns-5
 unfolding blockRules
@@ -83,11 +71,11 @@ refused-spec =
     tie.close
     (tie.spec
     returns
-    checked-requires
+    (λ c κs. search needs)
     returns-2
-    kind-requires
+    (λ c κs. search needs)
     returns-3
-    rate-code-requires
+    (λ c κs. search needs)
     returns-4
-    refused-count-requires
+    (λ c κs. search needs)
     returns-5)

@@ -17,23 +17,11 @@ use Rattle.block.proofs.refused_count.Tie as tie
 count-read : (c : tie.After-word) → c .word .result ≡ count (c .before .before .args .block .now)
 count-read c = c .word .ensures .0 ∙ count-is _
 
-word-requires : tie.Need-word-requires
-word-requires c κs = search needs
-
 returns : tie.Need-returns
 returns c = here _ _ _ (count-low _ (omega (arith, count-read (c .before))))
 
 returns-2 : tie.Need-returns-2
 returns-2 c = here _ _ _ (count-high _ (omega (arith, count-read (c .before .before))) (omega (arith, count-read (c .before .before))))
-
-mul-zeros-from : tie.Need-mul-zeros-from
-mul-zeros-from c = search needs
-
-add-zeros-from : tie.Need-add-zeros-from
-add-zeros-from c = search needs
-
-zeros-from-requires : tie.Need-zeros-from-requires
-zeros-from-requires c κs = search needs
 
 in-range : (c : tie.Else2) → wrongCount (c .before .before .before .before .args .block .now) ≡ false
 in-range c = count-right _ (omega (arith, count-read (c .before .before))) (omega (arith, count-read (c .before .before)))
@@ -55,11 +43,11 @@ pub refused-count-spec : {M : Type 1} → statement M
 refused-count-spec =
     tie.close
     (tie.spec
-    word-requires
+    (λ c κs. search needs)
     returns
     returns-2
-    mul-zeros-from
-    add-zeros-from
-    zeros-from-requires
+    (λ c. search needs)
+    (λ c. search needs)
+    (λ c κs. search needs)
     returns-3
     returns-4)

@@ -19,35 +19,11 @@ sound-here c = sym (c .before .is-sound .ensures) ∙ not-false _ (c .if1 .left)
 count-read : (c : tie.After-word) → c .word .result ≡ count (c .before .before .before .before .args .block .now)
 count-read c = c .word .ensures .0 ∙ count-is _
 
-is-sound-requires : tie.Need-is-sound-requires
-is-sound-requires c κs = search needs
-
-sub-result : tie.Need-sub-result
-sub-result c = search needs
-
-part-result-start : tie.Need-part-result-start
-part-result-start c = search needs
-
-part-result-end : tie.Need-part-result-end
-part-result-end c = search needs
-
 returns : tie.Need-returns
 returns c = part-none _ (sym (c .before .before .is-sound .ensures) ∙ not-true _ (c .before .if1 .taken))
 
 word-requires : tie.Need-word-requires
 word-requires c κs = omega (arith, sound-length _ (sound-here c))
-
-mul-end : tie.Need-mul-end
-mul-end c = search needs
-
-add-end : tie.Need-add-end
-add-end c = search needs
-
-sub-result-2 : tie.Need-sub-result-2
-sub-result-2 c = search needs
-
-part-result-start-2 : tie.Need-part-result-start-2
-part-result-start-2 c = search needs
 
 part-result-end-2 : tie.Need-part-result-end-2
 part-result-end-2 c =
@@ -64,15 +40,15 @@ pub samples-part-spec : {M : Type 1} → statement M
 samples-part-spec =
     tie.close
     (tie.spec
-    is-sound-requires
-    sub-result
-    part-result-start
-    part-result-end
+    (λ c κs. search needs)
+    (λ c. search needs)
+    (λ c. search needs)
+    (λ c. search needs)
     returns
     word-requires
-    mul-end
-    add-end
-    sub-result-2
-    part-result-start-2
+    (λ c. search needs)
+    (λ c. search needs)
+    (λ c. search needs)
+    (λ c. search needs)
     part-result-end-2
     returns-2)

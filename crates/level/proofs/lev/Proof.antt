@@ -9,9 +9,6 @@ use Rattle.level.proofs.Window.{none-below, none-above, level-at, words
 use Rattle.level.proofs.lev.Statement.{statement}
 use Rattle.level.proofs.lev.Tie as tie
 
-above-range-requires : tie.Need-above-range-requires
-above-range-requires c κs = search needs
-
 returns : tie.Need-returns
 returns c = none-above _ (ltb-true _ _ (sym (c .before .above-range .ensures) ∙ c .if1 .taken))
 
@@ -26,9 +23,6 @@ cast-steps c = omega (arith, c .two-words .ensures .1)
 
 returns-2 : tie.Need-returns-2
 returns-2 c = level-at _ _ (words-pos _ _ (c .before .if2 .taken)) (in-range (c .before .before)) (c .two-words .ensures)
-
-one-word-requires : tie.Need-one-word-requires
-one-word-requires c κs = search needs
 
 cast-steps-2 : tie.Need-cast-steps-2
 cast-steps-2 c = omega (arith, c .one-word .ensures .1)
@@ -45,4 +39,4 @@ returns-4 c = none-below _ (words-zero _ _ (c .before .if2 .left) (c .if3 .left)
 pub lev-spec : {M : Type 1} → statement M
 lev-spec =
     tie.close
-    (tie.spec above-range-requires returns two-words-requires cast-steps returns-2 one-word-requires cast-steps-2 returns-3 returns-4)
+    (tie.spec (λ c κs. search needs) returns two-words-requires cast-steps returns-2 (λ c κs. search needs) cast-steps-2 returns-3 returns-4)

@@ -13,9 +13,6 @@ placed : (c : tie.After-top-place) → Place (c .before .args .low) (c .top-plac
 placed c =
     subst (λ (b : ℕ). Place (c .before .args .low) b) (sym (c .top-place .ensures)) (word-place _ (c .before .pre) (c .before .fits .low .fits))
 
-top-place-requires : tie.Need-top-place-requires
-top-place-requires c κs = search needs
-
 sub-m : tie.Need-sub-m
 sub-m c = omega (arith, placed c .word)
 
@@ -24,9 +21,6 @@ shl-m c = omega (arith, placed c .word)
 
 mul-result : tie.Need-mul-result
 mul-result c = omega (arith, placed c .word)
-
-twelve-bits-requires : tie.Need-twelve-bits-requires
-twelve-bits-requires c κs = search needs
 
 add-result : tie.Need-add-result
 add-result c = omega (arith, placed (c .before) .word)
@@ -41,4 +35,4 @@ returns c =
 
 pub one-word-spec : {M : Type 1} → statement M
 one-word-spec =
-    tie.close (tie.spec top-place-requires sub-m shl-m mul-result twelve-bits-requires add-result returns)
+    tie.close (tie.spec (λ c κs. search needs) sub-m shl-m mul-result (λ c κs. search needs) add-result returns)

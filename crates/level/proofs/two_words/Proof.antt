@@ -17,9 +17,6 @@ placed c =
 small : (c : tie.After-top-place) → c .top-place .result < 63
 small c = omega (arith, two-small (c .before .args .high) (c .before .args .low) (c .top-place .result) (c .before .pre .1) (placed c .low))
 
-top-place-requires : tie.Need-top-place-requires
-top-place-requires c κs = search needs
-
 sub-m : tie.Need-sub-m
 sub-m c = omega (arith, small c)
 
@@ -63,7 +60,7 @@ pub two-words-spec : {M : Type 1} → statement M
 two-words-spec =
     tie.close
     (tie.spec
-    top-place-requires
+    (λ c κs. search needs)
     sub-m
     shl-m
     add-m

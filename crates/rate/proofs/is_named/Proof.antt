@@ -5,15 +5,6 @@ use borrow.Author.Needs.{needs}
 use Rattle.rate.proofs.is_named.Statement.{statement}
 use Rattle.rate.proofs.is_named.Tie as tie
 
-of-requires : tie.Need-of-requires
-of-requires c κs = search needs
-
-enum-told : tie.Need-enum-told
-enum-told c = search needs
-
-enum-told-2 : tie.Need-enum-told-2
-enum-told-2 c = search needs
-
 returns : tie.Need-returns
 returns c = sym (is-named _ _ (named-as _ _ _ (c .before .before .of .ensures) (c .enum-told .given .1)))
 
@@ -21,4 +12,4 @@ returns-2 : tie.Need-returns-2
 returns-2 c = sym (is-not-named _ (named-nothing _ _ (c .before .before .of .ensures) (c .enum-told2 .given .1)))
 
 pub is-named-spec : {M : Type 1} → statement M
-is-named-spec = tie.close (tie.spec of-requires enum-told enum-told-2 returns returns-2)
+is-named-spec = tie.close (tie.spec (λ c κs. search needs) (λ c. search needs) (λ c. search needs) returns returns-2)

@@ -80,10 +80,7 @@ cast-result-2 c =
 returns : tie.Need-returns
 returns c = ap (λ (z : ℤ). natAbs z + 1) (all-is c) ∙ omega (arith, facts c .big)
 
-returns-2 : tie.Need-returns-2
-returns-2 c = search needs
-
 pub magnitude-spec : {M : Type 1} → statement M
 magnitude-spec =
     tie.close
-    (tie.spec add-result sub-result cast-result add-result-2 cast-result-2 returns returns-2)
+    (tie.spec add-result sub-result cast-result add-result-2 cast-result-2 returns (λ c. search needs))

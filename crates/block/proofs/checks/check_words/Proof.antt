@@ -26,29 +26,11 @@ small c = weight-small (c .before .before .loop .i) (c .word .result) (c .word .
 loop-holds : tie.Need-loop-holds Inv-loop μ-loop
 loop-holds c = (search needs, sum-zero _, sum-zero _, search needs, search needs)
 
-mul-word : tie.Need-mul-word Inv-loop μ-loop
-mul-word c = search needs
-
-word-requires : tie.Need-word-requires Inv-loop μ-loop
-word-requires c κs = search needs
-
-add-sum : tie.Need-add-sum Inv-loop μ-loop
-add-sum c = search needs
-
-sub-weighted : tie.Need-sub-weighted Inv-loop μ-loop
-sub-weighted c = search needs
-
 mul-weighted : tie.Need-mul-weighted Inv-loop μ-loop
 mul-weighted c = omega (arith, small c)
 
 add-weighted : tie.Need-add-weighted Inv-loop μ-loop
 add-weighted c = omega (arith, small c)
-
-add-i : tie.Need-add-i Inv-loop μ-loop
-add-i c = search needs
-
-loop-less : tie.Need-loop-less Inv-loop μ-loop
-loop-less c = search needs
 
 loop-again : tie.Need-loop-again Inv-loop μ-loop
 unfolding word
@@ -76,13 +58,13 @@ check-words-spec =
     Inv-loop
     μ-loop
     loop-holds
-    mul-word
-    word-requires
-    add-sum
-    sub-weighted
+    (λ c. search needs)
+    (λ c κs. search needs)
+    (λ c. search needs)
+    (λ c. search needs)
     mul-weighted
     add-weighted
-    add-i
-    loop-less
+    (λ c. search needs)
+    (λ c. search needs)
     loop-again
     returns)

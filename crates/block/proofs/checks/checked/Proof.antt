@@ -6,20 +6,11 @@ use borrow.Author.Needs.{needs}
 use Rattle.block.proofs.checks.checked.Statement.{statement}
 use Rattle.block.proofs.checks.checked.Tie as tie
 
-check-words-requires : tie.Need-check-words-requires
-check-words-requires c κs = search needs
-
-word-requires : tie.Need-word-requires
-word-requires c κs = search needs
-
 returns : tie.Need-returns
 returns c =
     let k = c .before .before .before in
     let w = c .before .before .word .ensures .0 in
     first-off (k .before .before .args .block .now) (λ e. c .if1 .taken (w ∙ e ∙ sym (k .check-words .ensures .0)))
-
-word-requires-2 : tie.Need-word-requires-2
-word-requires-2 c κs = search needs
 
 returns-2 : tie.Need-returns-2
 returns-2 c =
@@ -30,4 +21,4 @@ returns-2 c =
 
 pub checked-spec : {M : Type 1} → statement M
 checked-spec =
-    tie.close (tie.spec check-words-requires word-requires returns word-requires-2 returns-2)
+    tie.close (tie.spec (λ c κs. search needs) (λ c κs. search needs) returns (λ c κs. search needs) returns-2)

@@ -5,11 +5,8 @@ use borrow.Author.Needs.{needs}
 use Rattle.block.proofs.reading.before.Statement.{statement}
 use Rattle.block.proofs.reading.before.Tie as tie
 
-eight-bytes-requires : tie.Need-eight-bytes-requires
-eight-bytes-requires c κs = search needs
-
 returns : tie.Need-returns
 returns c = c .eight-bytes .ensures ∙ before-is _
 
 pub before-spec : {M : Type 1} → statement M
-before-spec = tie.close (tie.spec eight-bytes-requires returns)
+before-spec = tie.close (tie.spec (λ c κs. search needs) returns)

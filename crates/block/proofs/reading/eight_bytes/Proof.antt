@@ -9,21 +9,6 @@ use borrow.Author.Needs.{needs}
 use Rattle.block.proofs.reading.eight_bytes.Statement.{statement}
 use Rattle.block.proofs.reading.eight_bytes.Tie as tie
 
-from-requires : tie.Need-from-requires
-from-requires c κs = search needs
-
-four-requires : tie.Need-four-requires
-four-requires c κs = search needs
-
-four-requires-2 : tie.Need-four-requires-2
-four-requires-2 c κs = search needs
-
-mul-result : tie.Need-mul-result
-mul-result c = search needs
-
-add-result : tie.Need-add-result
-add-result c = search needs
-
 returns : tie.Need-returns
 returns c =
     let f = c .before .before in
@@ -32,4 +17,4 @@ returns c =
 
 pub eight-bytes-spec : {M : Type 1} → statement M
 eight-bytes-spec =
-    tie.close (tie.spec from-requires four-requires four-requires-2 mul-result add-result returns)
+    tie.close (tie.spec (λ c κs. search needs) (λ c κs. search needs) (λ c κs. search needs) (λ c. search needs) (λ c. search needs) returns)

@@ -4,9 +4,6 @@ use Rattle.block.proofs.Numbers.{one-byte, no-byte}
 use Rattle.block.proofs.reading.one_byte.Statement.{statement}
 use Rattle.block.proofs.reading.one_byte.Tie as tie
 
-shared-slice-read-result : tie.Need-shared-slice-read-result
-shared-slice-read-result c = search needs
-
 returns : tie.Need-returns
 returns c = one-byte _ _
 
@@ -14,4 +11,4 @@ returns-2 : tie.Need-returns-2
 returns-2 c = no-byte _ _ (c .if1 .left)
 
 pub one-byte-spec : {M : Type 1} → statement M
-one-byte-spec = tie.close (tie.spec shared-slice-read-result returns returns-2)
+one-byte-spec = tie.close (tie.spec (λ c. search needs) returns returns-2)

@@ -8,17 +8,8 @@ use borrow.Author.Needs.{needs}
 use Rattle.block.proofs.reading.two_bytes.Statement.{statement}
 use Rattle.block.proofs.reading.two_bytes.Tie as tie
 
-from-requires : tie.Need-from-requires
-from-requires c κs = search needs
-
-two-requires : tie.Need-two-requires
-two-requires c κs = search needs
-
-cast-result : tie.Need-cast-result
-cast-result c = search needs
-
 returns : tie.Need-returns
 returns c = c .two .ensures .0 ∙ ap (λ (l : List ℕ). numberAt l 0 2) (c .before .from .ensures) ∙ from-place _ _ 2
 
 pub two-bytes-spec : {M : Type 1} → statement M
-two-bytes-spec = tie.close (tie.spec from-requires two-requires cast-result returns)
+two-bytes-spec = tie.close (tie.spec (λ c κs. search needs) (λ c κs. search needs) (λ c. search needs) returns)

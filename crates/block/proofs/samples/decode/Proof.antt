@@ -35,30 +35,12 @@ Inv-loop bytes samples₀ count j₀ samplesIn j = Inv bytes samples₀ count sa
 abbrev μ-loop : tie.MeasureT-loop
 μ-loop bytes samples₀ count j₀ samplesIn j = count - j
 
-least-requires : tie.Need-least-requires Inv-loop μ-loop
-least-requires c κs = search needs
-
 loop-holds : tie.Need-loop-holds Inv-loop μ-loop
 unfolding samplesAt
 loop-holds c = record { below = omega arith; room = refl; so-far = refl }
 
-mul-sample : tie.Need-mul-sample Inv-loop μ-loop
-mul-sample c = search needs
-
-sample-requires : tie.Need-sample-requires Inv-loop μ-loop
-sample-requires c κs = search needs
-
-mul-t11 : tie.Need-mul-t11 Inv-loop μ-loop
-mul-t11 c = search needs
-
 slice-set-from-samples : tie.Need-slice-set-from-samples Inv-loop μ-loop
 slice-set-from-samples c = let l = c .before .before in omega (arith, l .loop .inv .room, l .before .least .ensures)
-
-add-j : tie.Need-add-j Inv-loop μ-loop
-add-j c = search needs
-
-loop-less : tie.Need-loop-less Inv-loop μ-loop
-loop-less c = search needs
 
 loop-again : tie.Need-loop-again Inv-loop μ-loop
 loop-again c =
@@ -82,14 +64,14 @@ decode-spec =
     (tie.spec
     Inv-loop
     μ-loop
-    least-requires
+    (λ c κs. search needs)
     loop-holds
-    mul-sample
-    sample-requires
-    mul-t11
+    (λ c. search needs)
+    (λ c κs. search needs)
+    (λ c. search needs)
     slice-set-from-samples
-    add-j
-    loop-less
+    (λ c. search needs)
+    (λ c. search needs)
     loop-again
     same-length
     returns)

@@ -11,19 +11,10 @@ use Rattle.block.proofs.Laws.{signed-fits}
 use Rattle.block.proofs.samples.sample.Statement.{statement}
 use Rattle.block.proofs.samples.sample.Tie as tie
 
-word-requires : tie.Need-word-requires
-word-requires c κs = search needs
-
-cast-result : tie.Need-cast-result
-cast-result c = search needs
-
 returns : tie.Need-returns
 returns c =
     let w = c .before .word .result in
     toZ-pos w16 (c .if1 .taken) ∙ upper w (c .if1 .taken) ∙ ap signed (c .before .word .ensures .0)
-
-cast-result-2 : tie.Need-cast-result-2
-cast-result-2 c = search needs
 
 -- the word less 2^16
 is : (c : tie.Else1) → toZ w64 (c .before .word .result) -ℤ pos 65536 ≡ signed (c .before .word .result)
@@ -46,4 +37,4 @@ returns-2 c =
     ∙ ap signed (c .before .word .ensures .0)
 
 pub sample-spec : {M : Type 1} → statement M
-sample-spec = tie.close (tie.spec word-requires cast-result returns cast-result-2 sub-result cast-result-3 returns-2)
+sample-spec = tie.close (tie.spec (λ c κs. search needs) (λ c. search needs) returns (λ c. search needs) sub-result cast-result-3 returns-2)

@@ -6,11 +6,8 @@ use Rattle.level.proofs.Window.{words-one}
 use Rattle.level.proofs.Samples.level.Statement.{statement}
 use Rattle.level.proofs.Samples.level.Tie as tie
 
-lev-requires : tie.Need-lev-requires
-lev-requires c κs = search needs
-
 returns : tie.Need-returns
 returns c = c .lev .ensures ∙ sym (ap levelOf (words-one 0 _ (search needs)))
 
 pub level-spec : {M : Type 1} → statement M
-level-spec = tie.close (tie.spec lev-requires returns)
+level-spec = tie.close (tie.spec (λ c κs. search needs) returns)

@@ -7,15 +7,6 @@ use Rattle.level.proofs.Words.{carry}
 use Rattle.level.proofs.Squares.grown.Statement.{statement}
 use Rattle.level.proofs.Squares.grown.Tie as tie
 
-wrapping-add-u64-requires : tie.Need-wrapping-add-u64-requires
-wrapping-add-u64-requires c κs = search needs
-
-cast-carry : tie.Need-cast-carry
-cast-carry c = search needs
-
-wrapping-add-u64-requires-2 : tie.Need-wrapping-add-u64-requires-2
-wrapping-add-u64-requires-2 c κs = search needs
-
 returns : tie.Need-returns
 unfolding grown
 returns c =
@@ -27,4 +18,4 @@ returns c =
 
 pub grown-spec : {M : Type 1} → statement M
 grown-spec =
-    tie.close (tie.spec wrapping-add-u64-requires cast-carry wrapping-add-u64-requires-2 returns)
+    tie.close (tie.spec (λ c κs. search needs) (λ c. search needs) (λ c κs. search needs) returns)

@@ -22,18 +22,6 @@ use Rattle.meter.proofs.Meter.block.Tie as tie
 at-rate : (c : tie.After-rate2) → Usable (c .before .before .before .before .args .self) (c .rate2 .given .0 .0)
 at-rate c = usable-as _ _ _ (c .before .before .rate .ensures) (c .rate2 .given .1)
 
-rate-requires : tie.Need-rate-requires
-rate-requires c κs = search needs
-
-enum-known-rate : tie.Need-enum-known-rate
-enum-known-rate c = search needs
-
-samples-part-requires : tie.Need-samples-part-requires
-samples-part-requires c κs = search needs
-
-refused-requires : tie.Need-refused-requires
-refused-requires c κs = search needs
-
 returns : tie.Need-returns
 unfolding handedBy
 returns c =
@@ -51,15 +39,6 @@ follow-requires c κs =
     let e = p .samples-part .ensures in
     record { usable = at-rate (p .before .before); fits = part-sound b .0 (subst (λ (l : List ℕ). 0 < length l) e (pos-of-ne-zero (c .if1 .left))); part-is = e }
 
-enum-told : tie.Need-enum-told
-enum-told c = search needs
-
-refused-requires-2 : tie.Need-refused-requires-2
-refused-requires-2 c κs = search needs
-
-returns-2 : tie.Need-returns-2
-returns-2 c = search needs
-
 returns-3 : tie.Need-returns-3
 unfolding blockCall blockCallRules
 returns-3 c =
@@ -72,13 +51,13 @@ pub block-spec : {M : Type 1} → statement M
 block-spec =
     tie.close
     (tie.spec
-    rate-requires
-    enum-known-rate
-    samples-part-requires
-    refused-requires
+    (λ c κs. search needs)
+    (λ c. search needs)
+    (λ c κs. search needs)
+    (λ c κs. search needs)
     returns
     follow-requires
-    enum-told
-    refused-requires-2
-    returns-2
+    (λ c. search needs)
+    (λ c κs. search needs)
+    (λ c. search needs)
     returns-3)

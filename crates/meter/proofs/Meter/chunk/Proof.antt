@@ -14,15 +14,6 @@ use Rattle.meter.proofs.Meter.chunk.Tie as tie
 at-rate : (c : tie.After-rate2) → Usable (c .before .before .before .args .self) (c .rate2 .given .0 .0)
 at-rate c = usable-as _ _ _ (c .before .before .rate .ensures) (c .rate2 .given .1)
 
-rate-requires : tie.Need-rate-requires
-rate-requires c κs = search needs
-
-enum-known-rate : tie.Need-enum-known-rate
-enum-known-rate c = search needs
-
-refused-requires : tie.Need-refused-requires
-refused-requires c κs = search needs
-
 returns : tie.Need-returns
 unfolding chunkCall chunkRules longChunk
 returns c =
@@ -33,12 +24,6 @@ returns c =
 
 feed-requires : tie.Need-feed-requires
 feed-requires c κs = ready _ _ _ (at-rate (c .before .before)) (c .if1 .left)
-
-enum-told : tie.Need-enum-told
-enum-told c = search needs
-
-refused-requires-2 : tie.Need-refused-requires-2
-refused-requires-2 c κs = search needs
 
 returns-2 : tie.Need-returns-2
 unfolding chunkCall chunkRules longChunk takenBy
@@ -60,12 +45,12 @@ pub chunk-spec : {M : Type 1} → statement M
 chunk-spec =
     tie.close
     (tie.spec
-    rate-requires
-    enum-known-rate
-    refused-requires
+    (λ c κs. search needs)
+    (λ c. search needs)
+    (λ c κs. search needs)
     returns
     feed-requires
-    enum-told
-    refused-requires-2
+    (λ c. search needs)
+    (λ c κs. search needs)
     returns-2
     returns-3)

@@ -15,21 +15,6 @@ use Rattle.refusal.proofs.Laws.{here, past, none}
 use Rattle.meter.proofs.Meter.open.Statement.{statement}
 use Rattle.meter.proofs.Meter.open.Tie as tie
 
-of-requires : tie.Need-of-requires
-of-requires c κs = search needs
-
-enum-known-rate : tie.Need-enum-known-rate
-enum-known-rate c = search needs
-
-fresh-requires : tie.Need-fresh-requires
-fresh-requires c κs = search needs
-
-enum-told : tie.Need-enum-told
-enum-told c = search needs
-
-fresh-requires-2 : tie.Need-fresh-requires-2
-fresh-requires-2 c κs = search needs
-
 returns : tie.Need-returns
 unfolding handedBy openCall openRules fresh freshAt iOf unnamedCode
 returns c =
@@ -50,10 +35,10 @@ pub open-spec : {M : Type 1} → statement M
 open-spec =
     tie.close
     (tie.spec
-    of-requires
-    enum-known-rate
-    fresh-requires
-    enum-told
-    fresh-requires-2
+    (λ c κs. search needs)
+    (λ c. search needs)
+    (λ c κs. search needs)
+    (λ c. search needs)
+    (λ c κs. search needs)
     returns
     returns-2)

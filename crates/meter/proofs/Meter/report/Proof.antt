@@ -10,23 +10,8 @@ use Rattle.meter.proofs.Handing.{usable-as, unusable-as}
 use Rattle.meter.proofs.Meter.report.Statement.{statement}
 use Rattle.meter.proofs.Meter.report.Tie as tie
 
-rate-requires : tie.Need-rate-requires
-rate-requires c κs = search needs
-
-enum-told : tie.Need-enum-told
-enum-told c = search needs
-
 measured-requires : tie.Need-measured-requires
 measured-requires c κs = usable-as _ _ _ (c .before .before .rate .ensures) (c .enum-told .given .1) .possible-one
-
-enum-told-2 : tie.Need-enum-told-2
-enum-told-2 c = search needs
-
-unreported-requires : tie.Need-unreported-requires
-unreported-requires c κs = search needs
-
-returns : tie.Need-returns
-returns c = search needs
 
 returns-2 : tie.Need-returns-2
 unfolding reportRules
@@ -39,10 +24,10 @@ pub report-spec : {M : Type 1} → statement M
 report-spec =
     tie.close
     (tie.spec
-    rate-requires
-    enum-told
+    (λ c κs. search needs)
+    (λ c. search needs)
     measured-requires
-    enum-told-2
-    unreported-requires
-    returns
+    (λ c. search needs)
+    (λ c κs. search needs)
+    (λ c. search needs)
     returns-2)

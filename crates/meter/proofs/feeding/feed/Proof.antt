@@ -42,9 +42,6 @@ held : (m : Meter) → Possible m → (j : ℕ) → j < thresholds → getD (m .
 unfolding countingOf
 held m p j l = p .h-max j l
 
-count-requires : tie.Need-count-requires
-count-requires c κs = search needs
-
 add-total : tie.Need-add-total
 add-total c =
     let s = c .before in
@@ -55,9 +52,6 @@ add-total c =
 -- the total, as the definition has it
 total : (P : ℕ → Type 0) (c : tie.After-count) → P (c .count .result + length (c .before .args .xs .now)) → P (c .before .args .meter .state .sums .n .0 + length (c .before .args .xs .now))
 total P c h = subst (λ (n : ℕ). P (n + length (c .before .args .xs .now))) (c .count .ensures) h
-
-refused-requires : tie.Need-refused-requires
-refused-requires c κs = search needs
 
 returns : tie.Need-returns
 unfolding takenBy tooMany
@@ -88,4 +82,4 @@ returns-2 c =
     ∙ acceptance ((11, tooMany m (length xs)) ∷ []) (afterSamples m xs) m (past 11 (tooMany m (length xs)) [] (le-ltb _ _ (total (λ t. t ≤ mostSamples) (c .before .before .before) (c .before .before .if1 .left))) none)
 
 pub feed-spec : {M : Type 1} → statement M
-feed-spec = tie.close (tie.spec count-requires add-total refused-requires returns after-requires returns-2)
+feed-spec = tie.close (tie.spec (λ c κs. search needs) add-total (λ c κs. search needs) returns after-requires returns-2)

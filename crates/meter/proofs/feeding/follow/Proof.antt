@@ -57,12 +57,6 @@ read c =
     ∙ ap (λ (l : List ℕ). samplesAt l 0 (count (s .args .bytes .now))) (s .pre .part-is)
     ∙ part-reads (s .args .bytes .now) (s .pre .fits)
 
-rate-code-requires : tie.Need-rate-code-requires
-rate-code-requires c κs = search needs
-
-refused-requires : tie.Need-refused-requires
-refused-requires c κs = search needs
-
 returns : tie.Need-returns
 unfolding wrongRate
 returns c =
@@ -70,15 +64,6 @@ returns c =
     let s = i .before .before .before .before .before in
     c .refused .ensures
     ∙ by-rate _ _ (s .pre .usable .possible-one) (s .pre .fits) (ap not (ne-eqb _ _ (λ e. i .if1 .taken (i .before .before .rate-code .ensures ∙ e ∙ sym (code-is s)))))
-
-before-requires : tie.Need-before-requires
-before-requires c κs = search needs
-
-count-requires : tie.Need-count-requires
-count-requires c κs = search needs
-
-refused-requires-2 : tie.Need-refused-requires-2
-refused-requires-2 c κs = search needs
 
 returns-2 : tie.Need-returns-2
 unfolding wrongPlace
@@ -89,18 +74,6 @@ returns-2 c =
     let s = b .before .before .before .before .before .before in
     c .refused2 .ensures
     ∙ by-place _ _ (s .pre .usable .possible-one) (s .pre .fits) (rate-read (b .before)) (ap not (ne-eqb _ _ (λ e. i .if2 .taken (b .before2 .ensures ∙ e ∙ sym (n .count .ensures)))))
-
-slice-aggregate-decode : tie.Need-slice-aggregate-decode
-slice-aggregate-decode c = search needs
-
-decode-requires : tie.Need-decode-requires
-decode-requires c κs = search needs
-
-sub-feed : tie.Need-sub-feed
-sub-feed c = search needs
-
-part-feed-start : tie.Need-part-feed-start
-part-feed-start c = search needs
 
 part-feed-end : tie.Need-part-feed-end
 part-feed-end c = let d = c .before .before in omega (arith, fits d, room d)
@@ -128,17 +101,17 @@ pub follow-spec : {M : Type 1} → statement M
 follow-spec =
     tie.close
     (tie.spec
-    rate-code-requires
-    refused-requires
+    (λ c κs. search needs)
+    (λ c κs. search needs)
     returns
-    before-requires
-    count-requires
-    refused-requires-2
+    (λ c κs. search needs)
+    (λ c κs. search needs)
+    (λ c κs. search needs)
     returns-2
-    slice-aggregate-decode
-    decode-requires
-    sub-feed
-    part-feed-start
+    (λ c. search needs)
+    (λ c κs. search needs)
+    (λ c. search needs)
+    (λ c. search needs)
     part-feed-end
     feed-requires
     returns-3)

@@ -10,9 +10,6 @@ use Rattle.meter.specs.Inner.{freshAt}
 use Rattle.meter.proofs.opening.fresh.Statement.{statement}
 use Rattle.meter.proofs.opening.fresh.Tie as tie
 
-of-requires : tie.Need-of-requires
-of-requires c κs = search needs
-
 returns : tie.Need-returns
 unfolding freshAt freshState listFrom words
 returns c =
@@ -28,4 +25,4 @@ returns c =
     (c .of .ensures)
 
 pub fresh-spec : {M : Type 1} → statement M
-fresh-spec = tie.close (tie.spec of-requires returns)
+fresh-spec = tie.close (tie.spec (λ c κs. search needs) returns)

@@ -69,37 +69,16 @@ tested c =
       a-some = a-test false (c .before) (ne-eqb _ 0 (c .if3 .left));
     }
 
-count-requires : tie.Need-count-requires
-count-requires c κs = search needs
-
-unreported-requires : tie.Need-unreported-requires
-unreported-requires c κs = search needs
-
 returns : tie.Need-returns
 returns c =
     let n = c .before .before in
     c .unreported .ensures ∙ at-12 _ (start-at n .pre) (n-test true n (eq-eqb _ 0 (c .before .if1 .taken)))
-
-is-zero-requires : tie.Need-is-zero-requires
-is-zero-requires c κs = search needs
-
-unreported-requires-2 : tie.Need-unreported-requires-2
-unreported-requires-2 c κs = search needs
 
 returns-2 : tie.Need-returns-2
 returns-2 c =
     let z = c .before .before in
     let n = z .before .before in
     c .unreported2 .ensures ∙ at-13 _ (start-at n .pre) (n-test false n (ne-eqb _ 0 (z .before .if1 .left))) (sq-test true z (c .before .if2 .taken))
-
-array-copy-out-count : tie.Need-array-copy-out-count
-array-copy-out-count c = search needs
-
-count-requires-2 : tie.Need-count-requires-2
-count-requires-2 c κs = search needs
-
-unreported-requires-3 : tie.Need-unreported-requires-3
-unreported-requires-3 c κs = search needs
 
 returns-3 : tie.Need-returns-3
 returns-3 c =
@@ -109,9 +88,6 @@ returns-3 c =
     let n = z .before .before in
     c .unreported3 .ensures
     ∙ at-14 _ (start-at n .pre) (n-test false n (ne-eqb _ 0 (z .before .if1 .left))) (sq-test false z (e .if2 .left)) (a-test true t (eq-eqb _ 0 (c .before .if3 .taken)))
-
-of-requires : tie.Need-of-requires
-of-requires c κs = search needs
 
 find-levels-requires : tie.Need-find-levels-requires
 find-levels-requires c κs =
@@ -125,24 +101,6 @@ handed c f e =
     let m = start-at (counted-at (c .before .before)) .args .meter in
     by-found m (tested (c .before .before)) f
     (ap said (sym e) ∙ c .find-levels .ensures ∙ ap (λ (M : Steps). searched (M .0) (m .state .sums .n .0) (twoWords (m .state .sums .sq)) (m .state .a)) (c .before .of .ensures))
-
-enum-known-levels : tie.Need-enum-known-levels
-enum-known-levels c = search needs
-
-reported-requires : tie.Need-reported-requires
-reported-requires c κs = search needs
-
-enum-told : tie.Need-enum-told
-enum-told c = search needs
-
-unreported-requires-4 : tie.Need-unreported-requires-4
-unreported-requires-4 c κs = search needs
-
-enum-told-2 : tie.Need-enum-told-2
-enum-told-2 c = search needs
-
-unreported-requires-5 : tie.Need-unreported-requires-5
-unreported-requires-5 c κs = search needs
 
 returns-4 : tie.Need-returns-4
 unfolding said
@@ -160,24 +118,24 @@ pub measured-spec : {M : Type 1} → statement M
 measured-spec =
     tie.close
     (tie.spec
-    count-requires
-    unreported-requires
+    (λ c κs. search needs)
+    (λ c κs. search needs)
     returns
-    is-zero-requires
-    unreported-requires-2
+    (λ c κs. search needs)
+    (λ c κs. search needs)
     returns-2
-    array-copy-out-count
-    count-requires-2
-    unreported-requires-3
+    (λ c. search needs)
+    (λ c κs. search needs)
+    (λ c κs. search needs)
     returns-3
-    of-requires
+    (λ c κs. search needs)
     find-levels-requires
-    enum-known-levels
-    reported-requires
-    enum-told
-    unreported-requires-4
-    enum-told-2
-    unreported-requires-5
+    (λ c. search needs)
+    (λ c κs. search needs)
+    (λ c. search needs)
+    (λ c κs. search needs)
+    (λ c. search needs)
+    (λ c κs. search needs)
     returns-4
     returns-5
     returns-6)

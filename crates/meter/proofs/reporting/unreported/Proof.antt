@@ -15,12 +15,6 @@ use Rattle.meter.specs.Reports.{noReport}
 use Rattle.meter.proofs.reporting.unreported.Statement.{statement}
 use Rattle.meter.proofs.reporting.unreported.Tie as tie
 
-of-requires : tie.Need-of-requires
-of-requires c κs = search needs
-
-of-requires-2 : tie.Need-of-requires-2
-of-requires-2 c κs = search needs
-
 returns : tie.Need-returns
 unfolding reportedBy refusedReport noReport words noLevels listFrom
 returns c =
@@ -40,4 +34,4 @@ returns c =
     (c .before .of .ensures) (c .of2 .ensures)
 
 pub unreported-spec : {M : Type 1} → statement M
-unreported-spec = tie.close (tie.spec of-requires of-requires-2 returns)
+unreported-spec = tie.close (tie.spec (λ c κs. search needs) (λ c κs. search needs) returns)

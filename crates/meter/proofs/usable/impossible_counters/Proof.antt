@@ -88,30 +88,9 @@ asked l =
     let s = l .before .before .before .before .args in
     ap (λ (n : ℕ). someBelow thresholds (wrong (s .hangover) n (s .state .a) (s .state .h))) (l .before .before .before .count .ensures)
 
-count-requires : tie.Need-count-requires Inv-loop μ-loop
-count-requires c κs = search needs
-
 loop-holds : tie.Need-loop-holds Inv-loop μ-loop
 unfolding someBelow
 loop-holds c = record { below = omega arith; none = refl }
-
-next-place-requires : tie.Need-next-place-requires Inv-loop μ-loop
-next-place-requires c κs = search needs
-
-mul-count : tie.Need-mul-count Inv-loop μ-loop
-mul-count c = search needs
-
-array-copy-out-count : tie.Need-array-copy-out-count Inv-loop μ-loop
-array-copy-out-count c = search needs
-
-count-requires-2 : tie.Need-count-requires-2 Inv-loop μ-loop
-count-requires-2 c κs = search needs
-
-mul-impossible-counter : tie.Need-mul-impossible-counter Inv-loop μ-loop
-mul-impossible-counter c = search needs
-
-array-read-impossible-counter : tie.Need-array-read-impossible-counter Inv-loop μ-loop
-array-read-impossible-counter c = search needs
 
 -- the next place is one of them
 next-small : (j k : ℕ) → j < thresholds → NextPlace j k → k < thresholds
@@ -130,29 +109,17 @@ mul-count-2 c = record { fits = omega (arith, next-at c) }
 array-copy-out-count-2 : tie.Need-array-copy-out-count-2 Inv-loop μ-loop
 array-copy-out-count-2 c = next-at c
 
-count-requires-3 : tie.Need-count-requires-3 Inv-loop μ-loop
-count-requires-3 c κs = search needs
-
 mul-impossible-counter-2 : tie.Need-mul-impossible-counter-2 Inv-loop μ-loop
 mul-impossible-counter-2 c = record { fits = omega (arith, next-at (c .before .before)) }
 
 array-read-impossible-counter-2 : tie.Need-array-read-impossible-counter-2 Inv-loop μ-loop
 array-read-impossible-counter-2 c = next-at (c .before .before)
 
-impossible-counter-requires : tie.Need-impossible-counter-requires Inv-loop μ-loop
-impossible-counter-requires c κs = search needs
-
 returns : tie.Need-returns Inv-loop μ-loop
 returns c =
     let t = c .before in
     let l = at-loop t in
     sym (sym (asked l) ∙ some-below (wrong-at l) (l .loop .j) thresholds (sym (tested t) ∙ c .if1 .taken) (in-loop t .loop-test .taken))
-
-add-j : tie.Need-add-j Inv-loop μ-loop
-add-j c = search needs
-
-loop-less : tie.Need-loop-less Inv-loop μ-loop
-loop-less c = search needs
 
 loop-again : tie.Need-loop-again Inv-loop μ-loop
 loop-again c =
@@ -176,22 +143,22 @@ impossible-counters-spec =
     (tie.spec
     Inv-loop
     μ-loop
-    count-requires
+    (λ c κs. search needs)
     loop-holds
-    next-place-requires
-    mul-count
-    array-copy-out-count
-    count-requires-2
-    mul-impossible-counter
-    array-read-impossible-counter
+    (λ c κs. search needs)
+    (λ c. search needs)
+    (λ c. search needs)
+    (λ c κs. search needs)
+    (λ c. search needs)
+    (λ c. search needs)
     mul-count-2
     array-copy-out-count-2
-    count-requires-3
+    (λ c κs. search needs)
     mul-impossible-counter-2
     array-read-impossible-counter-2
-    impossible-counter-requires
+    (λ c κs. search needs)
     returns
-    add-j
-    loop-less
+    (λ c. search needs)
+    (λ c. search needs)
     loop-again
     returns-2)

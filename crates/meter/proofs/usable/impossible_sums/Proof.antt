@@ -59,9 +59,6 @@ s-ok c =
 sq-ok : (c : tie.Else3) → largeSquares (start-at (magnitude-at (above-at c)) .args .sums) ≡ false
 sq-ok c = sym (large (c .before)) ∙ c .if3 .left
 
-count-requires : tie.Need-count-requires
-count-requires c κs = search needs
-
 returns : tie.Need-returns
 unfolding impossibleSums manySamples
 returns c = stop _ _ (lt-ltb _ _ (subst (λ (n : ℕ). mostSamples < n) (n-is (c .before .before)) (c .if1 .taken)))
@@ -69,21 +66,12 @@ returns c = stop _ _ (lt-ltb _ _ (subst (λ (n : ℕ). mostSamples < n) (n-is (c
 mul-if2 : tie.Need-mul-if2
 mul-if2 c = record { fits = omega (arith, c .if1 .left) }
 
-magnitude-requires : tie.Need-magnitude-requires
-magnitude-requires c κs = search needs
-
 returns-2 : tie.Need-returns-2
 unfolding impossibleSums largeSum
 returns-2 c =
     let e = c .before .before .before in
     let s = start-at e .args .sums in
     go-on _ _ (n-ok e) (stop _ _ (lt-ltb (s .n .0 * sumBound) (natAbs (s .s)) (omega (arith, size (c .before), n-is (e .before .before), c .if2 .taken))))
-
-square-bound-requires : tie.Need-square-bound-requires
-square-bound-requires c κs = search needs
-
-above-requires : tie.Need-above-requires
-above-requires c κs = search needs
 
 returns-3 : tie.Need-returns-3
 unfolding impossibleSums
@@ -109,13 +97,13 @@ pub impossible-sums-spec : {M : Type 1} → statement M
 impossible-sums-spec =
     tie.close
     (tie.spec
-    count-requires
+    (λ c κs. search needs)
     returns
     mul-if2
-    magnitude-requires
+    (λ c κs. search needs)
     returns-2
-    square-bound-requires
-    above-requires
+    (λ c κs. search needs)
+    (λ c κs. search needs)
     returns-3
     returns-4
     returns-5)

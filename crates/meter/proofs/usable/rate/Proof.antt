@@ -43,15 +43,6 @@ unnamed m e = sym (stop _ _ (ap not (is-not-named (m .setting .code) e)))
 rate-is : (c : tie.After-rate) → rateOf (c .before .before .before .args .m .setting .code) ≡ some (c .rate .given .0 .0)
 rate-is c = named-as _ _ _ (c .before .before .of .ensures) (c .rate .given .1)
 
-of-requires : tie.Need-of-requires
-of-requires c κs = search needs
-
-enum-known-rate : tie.Need-enum-known-rate
-enum-known-rate c = search needs
-
-impossible-sums-requires : tie.Need-impossible-sums-requires
-impossible-sums-requires c κs = search needs
-
 returns : tie.Need-returns
 unfolding named
 returns c =
@@ -59,18 +50,12 @@ returns c =
     let m = r .before .before .before .args .m in
     unusable m (tests m _ (rate-is r) (stop _ _ (sym (c .before .impossible-sums .ensures) ∙ c .if1 .taken)))
 
-impossible-counters-requires : tie.Need-impossible-counters-requires
-impossible-counters-requires c κs = search needs
-
 returns-2 : tie.Need-returns-2
 unfolding named
 returns-2 c =
     let r = c .before .before .before .before .before in
     let m = r .before .before .before .args .m in
     unusable m (tests m _ (rate-is r) (go-on _ _ (sym (c .before .before .before .impossible-sums .ensures) ∙ c .before .before .if1 .left) (stop _ _ (sym (c .before .impossible-counters .ensures) ∙ c .if2 .taken))))
-
-enum-told : tie.Need-enum-told
-enum-told c = search needs
 
 returns-3 : tie.Need-returns-3
 unfolding named
@@ -89,12 +74,12 @@ pub rate-spec : {M : Type 1} → statement M
 rate-spec =
     tie.close
     (tie.spec
-    of-requires
-    enum-known-rate
-    impossible-sums-requires
+    (λ c κs. search needs)
+    (λ c. search needs)
+    (λ c κs. search needs)
     returns
-    impossible-counters-requires
+    (λ c κs. search needs)
     returns-2
-    enum-told
+    (λ c. search needs)
     returns-3
     returns-4)

@@ -9,11 +9,8 @@ use Rattle.meter.proofs.usable.square_bound.Tie as tie
 parts : (n : ℕ) → n / 2 ^ 34 * 2 ^ 64 + n % 2 ^ 34 * 2 ^ 30 ≡ n * 2 ^ 30
 parts n = omega arith
 
-mul-t4 : tie.Need-mul-t4
-mul-t4 c = search needs
-
 returns : tie.Need-returns
 returns c = parts _
 
 pub square-bound-spec : {M : Type 1} → statement M
-square-bound-spec = tie.close (tie.spec mul-t4 returns)
+square-bound-spec = tie.close (tie.spec (λ c. search needs) returns)

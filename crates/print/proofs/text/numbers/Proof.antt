@@ -12,45 +12,18 @@ Inv-loop line₀ used xs end₀ j₀ line end j = length line ≡ length line₀
 abbrev μ-loop : tie.MeasureT-loop
 μ-loop line₀ used xs end₀ j₀ line end j = 15 - j
 
-loop-holds : tie.Need-loop-holds Inv-loop μ-loop
-loop-holds c = search needs
-
-mul-spaced : tie.Need-mul-spaced Inv-loop μ-loop
-mul-spaced c = search needs
-
-element-copy-out-spaced : tie.Need-element-copy-out-spaced Inv-loop μ-loop
-element-copy-out-spaced c = search needs
-
-spaced-requires : tie.Need-spaced-requires Inv-loop μ-loop
-spaced-requires c κs = search needs
-
-add-j : tie.Need-add-j Inv-loop μ-loop
-add-j c = search needs
-
-loop-less : tie.Need-loop-less Inv-loop μ-loop
-loop-less c = search needs
-
-loop-again : tie.Need-loop-again Inv-loop μ-loop
-loop-again c = search needs
-
-same-length : tie.Need-same-length Inv-loop μ-loop
-same-length c = search needs
-
-returns : tie.Need-returns Inv-loop μ-loop
-returns c = search needs
-
 pub numbers-spec : {M : Type 1} → statement M
 numbers-spec =
     tie.close
     (tie.spec
     Inv-loop
     μ-loop
-    loop-holds
-    mul-spaced
-    element-copy-out-spaced
-    spaced-requires
-    add-j
-    loop-less
-    loop-again
-    same-length
-    returns)
+    (λ c. search needs)
+    (λ c. search needs)
+    (λ c. search needs)
+    (λ c κs. search needs)
+    (λ c. search needs)
+    (λ c. search needs)
+    (λ c. search needs)
+    (λ c. search needs)
+    (λ c. search needs))

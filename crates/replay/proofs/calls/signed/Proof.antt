@@ -32,14 +32,8 @@ lower w h l =
 fits : (x : ℕ) → x < 2 ^ 63 → SFits w64 (toZ w64 x +ℤ negsuc (2 ^ 63 - 1))
 fits x h = subst (SFits w64) (sym (below x h)) (record { sfits = omega arith })
 
-cast-result : tie.Need-cast-result
-cast-result c = search needs
-
 returns : tie.Need-returns
 returns c = let w = c .before .args .word in toZ-pos w64 {n = w} (c .if1 .taken) ∙ upper w (c .if1 .taken)
-
-cast-result-2 : tie.Need-cast-result-2
-cast-result-2 c = search needs
 
 add-result : tie.Need-add-result
 add-result c = fits (c .before .args .word - 2 ^ 63) (omega (arith, c .before .fits .word .fits))
@@ -51,4 +45,4 @@ returns-2 c =
     toZ-ofZ (fits (w - 2 ^ 63) h) ∙ below (w - 2 ^ 63) h ∙ lower w (c .if1 .left) (c .before .fits .word .fits)
 
 pub signed-spec : {M : Type 1} → statement M
-signed-spec = tie.close (tie.spec cast-result returns cast-result-2 add-result returns-2)
+signed-spec = tie.close (tie.spec (λ c. search needs) returns (λ c. search needs) add-result returns-2)

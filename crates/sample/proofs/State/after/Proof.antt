@@ -89,9 +89,6 @@ all-fit c = more _ _ _ (first-n c) (start-at c .pre .room)
     more : (r n l : ℕ) → r ≡ n + 1 → n + l ≤ mostSamples → r + l ≤ mostSamples + 1
     more r n l e h = omega arith
 
-numbers-requires : tie.Need-numbers-requires Inv-loop μ-loop
-numbers-requires c κs = search needs
-
 shared-slice-copy-out-step : tie.Need-shared-slice-copy-out-step Inv-loop μ-loop
 shared-slice-copy-out-step c = some-sample (c .before .before .before .before)
 
@@ -183,9 +180,6 @@ finish-requires c κs =
       is-max = omega arith;
     }
 
-counts-requires : tie.Need-counts-requires Inv-loop μ-loop
-counts-requires c κs = search needs
-
 -- ---- the end: what the samples lead to from plain counts is what they lead to from the state
 
 -- the counts that settling left
@@ -215,7 +209,7 @@ after-spec =
     Inv-loop
     μ-loop
     returns
-    numbers-requires
+    (λ c κs. search needs)
     shared-slice-copy-out-step
     step-requires
     around-requires
@@ -226,5 +220,5 @@ after-spec =
     loop-less
     loop-again
     finish-requires
-    counts-requires
+    (λ c κs. search needs)
     returns-2)

@@ -44,15 +44,6 @@ sq-room n sq h k = omega arith
 square-fits : (size : ℕ) → size ≤ 2 ^ 15 → size * size < 2 ^ 64
 square-fits size h = lt-of-le-of-lt (mul-le-mul h h) (lit< tt)
 
-rectified-requires : tie.Need-rectified-requires
-rectified-requires c κs = search needs
-
-mul-smoothed : tie.Need-mul-smoothed
-mul-smoothed c = search needs
-
-smoothed-requires : tie.Need-smoothed-requires
-smoothed-requires c κs = search needs
-
 smoothed-requires-2 : tie.Need-smoothed-requires-2
 smoothed-requires-2 c κs =
     let r = c .before .before in
@@ -65,14 +56,8 @@ smoothed-requires-2 c κs =
       new-max = subst (λ (x : ℕ). x ≤ 2 ^ 40) (sym (c .smoothed .ensures)) (smooth-le (s .args .by .k) (2 ^ 40) (s .args .self .p) _ (s .pre .k-max) (p .p-max) small);
     }
 
-count-requires : tie.Need-count-requires
-count-requires c κs = search needs
-
 add-of : tie.Need-add-of
 add-of c = record { fits = omega (arith, c .count .ensures, rectified-at (c .before) .before .pre .room) }
-
-of-requires : tie.Need-of-requires
-of-requires c κs = search needs
 
 added-requires : tie.Need-added-requires
 added-requires c κs =
@@ -81,9 +66,6 @@ added-requires c κs =
 
 mul-grown : tie.Need-mul-grown
 mul-grown c = record { fits = square-fits _ (rectified-at (smoothed-at (c .before)) .rectified .ensures .small) }
-
-grown-requires : tie.Need-grown-requires
-grown-requires c κs = search needs
 
 made : (K : ℕ) (m : Sums) (n : Samples) (x x′ s s′ t : ℤ) (k size p q : ℕ) (sq : Squares)
     → k ≡ m .n .0 → n ≡ samplesOf (k + 1) → x′ ≡ x → s′ ≡ m .s → size ≡ natAbs x′ → t ≡ s → s ≡ s′ +ℤ x′ → p ≡ smooth K (m .p) (size * 2 ^ 24) → q ≡ smooth K (m .q) p
@@ -110,14 +92,14 @@ pub step-spec : {M : Type 1} → statement M
 step-spec =
     tie.close
     (tie.spec
-    rectified-requires
-    mul-smoothed
-    smoothed-requires
+    (λ c κs. search needs)
+    (λ c. search needs)
+    (λ c κs. search needs)
     smoothed-requires-2
-    count-requires
+    (λ c κs. search needs)
     add-of
-    of-requires
+    (λ c κs. search needs)
     added-requires
     mul-grown
-    grown-requires
+    (λ c κs. search needs)
     returns)

@@ -63,9 +63,6 @@ shifted b l = ap (λ (n : ℕ). n % 2 ^ 64) (one-mul (2 ^ b)) ∙ mod-eq-of-lt (
 returns : tie.Need-returns
 returns c = record { clear = clear-below; sides = none-below; from = search needs; to = search needs }
 
-top-place-requires : tie.Need-top-place-requires
-top-place-requires c κs = search needs
-
 shl-low : tie.Need-shl-low
 shl-low c = omega (arith, small c)
 
@@ -77,9 +74,6 @@ add-at-most-all c = omega (arith, small c)
 
 sub-at-most-all : tie.Need-sub-at-most-all
 sub-at-most-all c = omega (arith, large c)
-
-at-most-all-requires : tie.Need-at-most-all-requires
-at-most-all-requires c κs = search needs
 
 returns-2 : tie.Need-returns-2
 returns-2 c =
@@ -102,4 +96,4 @@ returns-2 c =
     subst₂ P {x} {y} {u} {v} e f p = subst (P y) f (subst (λ (z : ℕ). P z u) e p)
 
 pub around-spec : {M : Type 1} → statement M
-around-spec = tie.close (tie.spec returns top-place-requires shl-low mul-t5 add-at-most-all sub-at-most-all at-most-all-requires returns-2)
+around-spec = tie.close (tie.spec returns (λ c κs. search needs) shl-low mul-t5 add-at-most-all sub-at-most-all (λ c κs. search needs) returns-2)

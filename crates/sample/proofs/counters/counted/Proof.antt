@@ -8,18 +8,6 @@ use borrow.Author.Needs.{needs}
 use Rattle.sample.proofs.counters.counted.Statement.{statement}
 use Rattle.sample.proofs.counters.counted.Tie as tie
 
-add-result : tie.Need-add-result
-add-result c = search needs
-
-sub-least : tie.Need-sub-least
-sub-least c = search needs
-
-least-requires : tie.Need-least-requires
-least-requires c κs = search needs
-
-add-result-2 : tie.Need-add-result-2
-add-result-2 c = search needs
-
 returns : tie.Need-returns
 returns c =
     let s = c .before .args in
@@ -33,4 +21,4 @@ returns-2 c =
 
 pub counted-spec : {M : Type 1} → statement M
 counted-spec =
-    tie.close (tie.spec add-result sub-least least-requires add-result-2 returns returns-2)
+    tie.close (tie.spec (λ c. search needs) (λ c. search needs) (λ c κs. search needs) (λ c. search needs) returns returns-2)

@@ -10,9 +10,6 @@ use Rattle.sample.proofs.Settling.{in-between, apart, twice, still-stan
 use Rattle.sample.proofs.counters.cross.Statement.{statement}
 use Rattle.sample.proofs.counters.cross.Tie as tie
 
-settle-requires : tie.Need-settle-requires
-settle-requires c κs = search needs
-
 settle-requires-2 : tie.Need-settle-requires-2
 settle-requires-2 c κs = (still-standing _ _ _ _ _ _ _ _ _ _ _ (c .before .before .before .before .before .before .before .pre .standing) (c .before .before .before .settle .ensures), c .before .before .before .before .before .before .before .pre .was-max)
 
@@ -29,4 +26,4 @@ returns c =
     (c .settle2 .ensures)
 
 pub cross-spec : {M : Type 1} → statement M
-cross-spec = tie.close (tie.spec settle-requires settle-requires-2 returns)
+cross-spec = tie.close (tie.spec (λ c κs. search needs) settle-requires-2 returns)

@@ -10,15 +10,6 @@ use Rattle.sample.proofs.Over.{on-hangover, off-hangover, no-hangover}
 use Rattle.sample.proofs.counters.hung.Statement.{statement}
 use Rattle.sample.proofs.counters.hung.Tie as tie
 
-sub-least : tie.Need-sub-least
-sub-least c = search needs
-
-least-requires : tie.Need-least-requires
-least-requires c κs = search needs
-
-add-result : tie.Need-add-result
-add-result c = search needs
-
 returns : tie.Need-returns
 returns c =
     let s = c .before .before .args in
@@ -34,4 +25,4 @@ returns-3 c =
     sym (ap (λ (b : Bool). hangoverOver (s .hangover) b (s .run) (s .h)) (not-false _ (c .before .if1 .left)) ∙ on-hangover (s .hangover) (s .run) (s .h) (pos-of-ne-zero (c .if2 .left)))
 
 pub hung-spec : {M : Type 1} → statement M
-hung-spec = tie.close (tie.spec sub-least least-requires add-result returns returns-2 returns-3)
+hung-spec = tie.close (tie.spec (λ c. search needs) (λ c κs. search needs) (λ c. search needs) returns returns-2 returns-3)

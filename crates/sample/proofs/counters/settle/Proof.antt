@@ -36,24 +36,6 @@ loop-holds c =
     let p = c .pre .0 in
     record { reached = omega arith; below = omega arith; so-far = none-yet _ _ _ _ _ _ _ _ (p .a-length) (p .h-length) (p .since-length) }
 
-mul-aj : tie.Need-mul-aj Inv-loop μ-loop
-mul-aj c = search needs
-
-element-copy-out-aj : tie.Need-element-copy-out-aj Inv-loop μ-loop
-element-copy-out-aj c = search needs
-
-mul-hj : tie.Need-mul-hj Inv-loop μ-loop
-mul-hj c = search needs
-
-element-copy-out-hj : tie.Need-element-copy-out-hj Inv-loop μ-loop
-element-copy-out-hj c = search needs
-
-mul-run : tie.Need-mul-run Inv-loop μ-loop
-mul-run c = search needs
-
-element-copy-out-run : tie.Need-element-copy-out-run Inv-loop μ-loop
-element-copy-out-run c = search needs
-
 sub-run : tie.Need-sub-run Inv-loop μ-loop
 sub-run c =
     let n = c .before .before .before in
@@ -66,34 +48,10 @@ counted-requires c κs =
     let e = still n in
     record { room = omega (arith, e .index, e .count, p .room (n .before .loop .j)); h-max = omega (arith, e .hangover, p .h-max (n .before .loop .j)) }
 
-mul-a : tie.Need-mul-a Inv-loop μ-loop
-mul-a c = search needs
-
-element-write-a : tie.Need-element-write-a Inv-loop μ-loop
-element-write-a c = search needs
-
 hung-requires : tie.Need-hung-requires Inv-loop μ-loop
 hung-requires c κs =
     let n = c .before .before .before .before in
     omega (arith, still n .hangover, n .before .before .pre .0 .h-max (n .before .loop .j))
-
-mul-h : tie.Need-mul-h Inv-loop μ-loop
-mul-h c = search needs
-
-element-write-h : tie.Need-element-write-h Inv-loop μ-loop
-element-write-h c = search needs
-
-mul-since : tie.Need-mul-since Inv-loop μ-loop
-mul-since c = search needs
-
-element-write-since : tie.Need-element-write-since Inv-loop μ-loop
-element-write-since c = search needs
-
-add-j : tie.Need-add-j Inv-loop μ-loop
-add-j c = search needs
-
-loop-less : tie.Need-loop-less Inv-loop μ-loop
-loop-less c = search needs
 
 loop-again : tie.Need-loop-again Inv-loop μ-loop
 loop-again c =
@@ -119,22 +77,22 @@ settle-spec =
     Inv-loop
     μ-loop
     loop-holds
-    mul-aj
-    element-copy-out-aj
-    mul-hj
-    element-copy-out-hj
-    mul-run
-    element-copy-out-run
+    (λ c. search needs)
+    (λ c. search needs)
+    (λ c. search needs)
+    (λ c. search needs)
+    (λ c. search needs)
+    (λ c. search needs)
     sub-run
     counted-requires
-    mul-a
-    element-write-a
+    (λ c. search needs)
+    (λ c. search needs)
     hung-requires
-    mul-h
-    element-write-h
-    mul-since
-    element-write-since
-    add-j
-    loop-less
+    (λ c. search needs)
+    (λ c. search needs)
+    (λ c. search needs)
+    (λ c. search needs)
+    (λ c. search needs)
+    (λ c. search needs)
     loop-again
     returns)

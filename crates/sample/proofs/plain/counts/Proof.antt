@@ -14,32 +14,8 @@ Inv-loop a counts₀ j₀ counts j = Mapped samplesOf thresholds a counts₀ cou
 abbrev μ-loop : tie.MeasureT-loop
 μ-loop a counts₀ j₀ counts j = thresholds - j
 
-of-requires : tie.Need-of-requires Inv-loop μ-loop
-of-requires c κs = search needs
-
 loop-holds : tie.Need-loop-holds Inv-loop μ-loop
 loop-holds c = record { below = omega arith; many = search needs; room = refl; so-far = refl }
-
-mul-of : tie.Need-mul-of Inv-loop μ-loop
-mul-of c = search needs
-
-array-read-of : tie.Need-array-read-of Inv-loop μ-loop
-array-read-of c = search needs
-
-of-requires-2 : tie.Need-of-requires-2 Inv-loop μ-loop
-of-requires-2 c κs = search needs
-
-mul-counts : tie.Need-mul-counts Inv-loop μ-loop
-mul-counts c = search needs
-
-array-set-from-counts : tie.Need-array-set-from-counts Inv-loop μ-loop
-array-set-from-counts c = search needs
-
-add-j : tie.Need-add-j Inv-loop μ-loop
-add-j c = search needs
-
-loop-less : tie.Need-loop-less Inv-loop μ-loop
-loop-less c = search needs
 
 loop-again : tie.Need-loop-again Inv-loop μ-loop
 loop-again c =
@@ -55,14 +31,14 @@ counts-spec =
     (tie.spec
     Inv-loop
     μ-loop
-    of-requires
+    (λ c κs. search needs)
     loop-holds
-    mul-of
-    array-read-of
-    of-requires-2
-    mul-counts
-    array-set-from-counts
-    add-j
-    loop-less
+    (λ c. search needs)
+    (λ c. search needs)
+    (λ c κs. search needs)
+    (λ c. search needs)
+    (λ c. search needs)
+    (λ c. search needs)
+    (λ c. search needs)
     loop-again
     returns)

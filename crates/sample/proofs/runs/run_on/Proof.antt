@@ -37,17 +37,8 @@ out c =
     gone-out (s .args .by) _ _ (s .args .first) (s .args .xs .now) (s .args .at) (s .pre) (l .sums) _ (l .next) (l .inv)
     (c .before .before .loop-test .taken) (fits (c .before)) (stepped c)
 
-add-next : tie.Need-add-next Inv-loop μ-loop
-add-next c = search needs
-
 loop-holds : tie.Need-loop-holds Inv-loop μ-loop
 loop-holds c = begun (c .args .by) _ _ (c .args .first) (c .args .xs .now) (c .args .at) (c .pre)
-
-mul-step : tie.Need-mul-step Inv-loop μ-loop
-mul-step c = search needs
-
-shared-slice-copy-out-step : tie.Need-shared-slice-copy-out-step Inv-loop μ-loop
-shared-slice-copy-out-step c = search needs
 
 step-requires : tie.Need-step-requires Inv-loop μ-loop
 step-requires c κs =
@@ -66,9 +57,6 @@ add-next-2 c =
     let i = c .before .before .before .before .before .before .before .before in
     record { fits = omega (arith, i .loop-test .taken, i .before .before .good .1 .1 .1 .0 .0) }
 
-loop-less : tie.Need-loop-less Inv-loop μ-loop
-loop-less c = search needs
-
 loop-again : tie.Need-loop-again Inv-loop μ-loop
 loop-again c =
     let st = c .before .before .before .before .before .before in
@@ -86,14 +74,14 @@ run-on-spec =
     (tie.spec
     Inv-loop
     μ-loop
-    add-next
+    (λ c. search needs)
     loop-holds
-    mul-step
-    shared-slice-copy-out-step
+    (λ c. search needs)
+    (λ c. search needs)
     step-requires
     returns
     returns-2
     add-next-2
-    loop-less
+    (λ c. search needs)
     loop-again
     returns-3)

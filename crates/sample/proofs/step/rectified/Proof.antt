@@ -13,13 +13,10 @@ use Rattle.sample.proofs.step.rectified.Tie as tie
 cast-magnitude : tie.Need-cast-magnitude
 cast-magnitude c = subst (SFits w64) (sym (toZ-ofZ (c .fits .x))) (sfits-widen tt (c .fits .x))
 
-magnitude-requires : tie.Need-magnitude-requires
-magnitude-requires c κs = search needs
-
 returns : tie.Need-returns
 returns c =
     let e = c .magnitude .ensures ∙ ap natAbs (wide (c .before .fits .x)) in
     record { is = e; small = subst (λ (r : ℕ). r ≤ 2 ^ 15) (sym e) (small (c .before .args .x) (c .before .fits .x)) }
 
 pub rectified-spec : {M : Type 1} → statement M
-rectified-spec = tie.close (tie.spec cast-magnitude magnitude-requires returns)
+rectified-spec = tie.close (tie.spec cast-magnitude (λ c κs. search needs) returns)

@@ -11,9 +11,6 @@ use Rattle.sample.proofs.step.smoothed.Tie as tie
 whole : (c : tie.Start) → c .args .old * (1048576 - c .args .k) + c .args .new * c .args .k ≤ 2 ^ 60
 whole c = mixed (c .args .k) (2 ^ 40) (c .args .old) (c .args .new) (c .pre .k-max) (c .pre .old-max) (c .pre .new-max)
 
-sub-result : tie.Need-sub-result
-sub-result c = search needs
-
 mul-result : tie.Need-mul-result
 mul-result c = record { fits = omega (arith, whole c) }
 
@@ -28,4 +25,4 @@ unfolding smooth
 returns c = refl
 
 pub smoothed-spec : {M : Type 1} → statement M
-smoothed-spec = tie.close (tie.spec sub-result mul-result mul-result-2 add-result returns)
+smoothed-spec = tie.close (tie.spec (λ c. search needs) mul-result mul-result-2 add-result returns)
