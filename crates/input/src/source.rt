@@ -116,6 +116,15 @@ struct Got {
     coming: Coming,
 }
 
+fn failed(end: usize, error: i32) -> Got
+    ensures { λ r. ⌜ r .end ≡ end ⌝ }
+{
+    Got {
+        end,
+        coming: Coming::Failed(error),
+    }
+}
+
 // How often an interrupted read is tried again.
 const TRIES: usize = 100;
 
@@ -143,16 +152,10 @@ fn received(buffer: &mut [u8], held: usize, enough: usize) -> Got
             }
             let error = os::errno();
             if error != libc::EINTR {
-                return Got {
-                    end,
-                    coming: Coming::Failed(error),
-                };
+                return failed(end, error);
             }
             if tries == TRIES {
-                return Got {
-                    end,
-                    coming: Coming::Failed(error),
-                };
+                return failed(end, error);
             }
             tries += 1;
         }
