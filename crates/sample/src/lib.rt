@@ -53,13 +53,13 @@ impl State {
         if xs.len() == 0 {
             return self;
         }
+        let before = self.sums;
+        let mut sums = before.step(by, xs[0]);
+        let mut band = band::around(sums.q);
         let counts = self.a;
         let mut a = plain::numbers(counts);
         let mut h = self.h;
         let mut since = [0u64; THRESHOLDS];
-        let before = self.sums;
-        let mut sums = before.step(by, xs[0]);
-        let mut band = band::around(sums.q);
         let mut at = 0;
         while at < xs.len() {
             let run = runs::run_on(sums, by, band, xs, at);

@@ -28,22 +28,22 @@ use Rattle.sample.proofs.State.after.Statement.{statement}
 use Rattle.sample.proofs.State.after.Tie as tie
 
 abbrev Inv-loop : tie.InvT-loop
-Inv-loop by xs a₀ h₀ since₀ sums₀ band₀ at₀ a h since sums band at =
+Inv-loop by xs sums₀ band₀ a₀ h₀ since₀ at₀ sums band a h since at =
     Turning by sums₀ a₀ h₀ xs a h since sums (band .low) (band .high) (band .below) at
 
 abbrev μ-loop : tie.MeasureT-loop
-μ-loop by xs a₀ h₀ since₀ sums₀ band₀ at₀ a h since sums band at = length xs - at
+μ-loop by xs sums₀ band₀ a₀ h₀ since₀ at₀ sums band a h since at = length xs - at
 
 -- ---- points of the code
 
 abbrev filled-at : tie.After-step Inv-loop μ-loop → tie.Else1 Inv-loop μ-loop
-filled-at c = c .before .before .before .before .before .before
+filled-at c = c .before .before .before
 
 abbrev start-at : tie.After-step Inv-loop μ-loop → tie.Start Inv-loop μ-loop
 start-at c = filled-at c .before
 
-abbrev numbers-at : tie.After-step Inv-loop μ-loop → tie.After-numbers Inv-loop μ-loop
-numbers-at c = c .before .before .before .before
+abbrev stepped-at : tie.After-numbers Inv-loop μ-loop → tie.After-step Inv-loop μ-loop
+stepped-at c = c .before .before .before
 
 abbrev ran-at : tie.After-since Inv-loop μ-loop → tie.After-run-on Inv-loop μ-loop
 ran-at c = c .before .before .before .before .before
@@ -90,11 +90,11 @@ all-fit c = more _ _ _ (first-n c) (start-at c .pre .room)
     more r n l e h = omega arith
 
 shared-slice-copy-out-step : tie.Need-shared-slice-copy-out-step Inv-loop μ-loop
-shared-slice-copy-out-step c = some-sample (c .before .before .before .before)
+shared-slice-copy-out-step c = some-sample (c .before)
 
 step-requires : tie.Need-step-requires Inv-loop μ-loop
 step-requires c κs =
-    let f = c .before .before .before .before .before in
+    let f = c .before .before in
     let p = f .before .pre in
     record { bounded = p .sums; k-max = p .k-max; room = first-room _ _ (some-sample f) (p .room) }
 
@@ -106,34 +106,33 @@ around-requires c κs = first-bounded c .q-max
 h-length : (c : tie.After-step Inv-loop μ-loop) → length (start-at c .args .self .h) ≡ thresholds
 h-length c = search needs
 
-numbers-are : (c : tie.After-step Inv-loop μ-loop) → numbers-at c .numbers .result ≡ numbersOf (start-at c .args .self .a)
-numbers-are c = numbers-at c .numbers .ensures .are
+numbers-are : (c : tie.After-numbers Inv-loop μ-loop) → c .numbers .result ≡ numbersOf (start-at (stepped-at c) .args .self .a)
+numbers-are c = c .numbers .ensures .are
 
-numbers-length : (c : tie.After-step Inv-loop μ-loop) → length (numbers-at c .numbers .result) ≡ thresholds
-numbers-length c = numbers-at c .numbers .ensures .many
-
-numbers-max : (c : tie.After-step Inv-loop μ-loop) (j : ℕ) → j < thresholds → getD (numbers-at c .numbers .result) j 0 ≤ start-at c .args .self .sums .n .0
+numbers-max : (c : tie.After-numbers Inv-loop μ-loop) (j : ℕ) → j < thresholds → getD (c .numbers .result) j 0 ≤ start-at (stepped-at c) .args .self .sums .n .0
 numbers-max c j l =
-    subst (λ (x : List ℕ). getD x j 0 ≤ start-at c .args .self .sums .n .0) (sym (numbers-are c))
-    (subst (λ (x : ℕ). x ≤ start-at c .args .self .sums .n .0) (sym (number-at (start-at c .args .self .a) j)) (start-at c .pre .a-max j l))
+    let s = start-at (stepped-at c) in
+    subst (λ (x : List ℕ). getD x j 0 ≤ s .args .self .sums .n .0) (sym (numbers-are c))
+    (subst (λ (x : ℕ). x ≤ s .args .self .sums .n .0) (sym (number-at (s .args .self .a) j)) (s .pre .a-max j l))
 
 -- ---- the loop
 
 loop-holds : tie.Need-loop-holds Inv-loop μ-loop
 unfolding listFrom
 loop-holds c =
-    let f = c .before in
+    let n = c .before in
+    let f = stepped-at n in
     let s = start-at f in
     let lh = h-length f in
-    started (s .args .by) (f .step .result) (numbers-at f .numbers .result) (s .args .self .h) (s .args .xs .now) _ _ _ (first-bounded f) (sym (numbers-length f)) (sym lh)
-    (λ j. omega (arith, first-n f, at-or-past (numbers-at f .numbers .result) thresholds (s .args .self .sums .n .0) (numbers-length f) (numbers-max f) j))
+    started (s .args .by) (f .step .result) (n .numbers .result) (s .args .self .h) (s .args .xs .now) _ _ _ (first-bounded f) (sym (n .numbers .ensures .many)) (sym lh)
+    (λ j. omega (arith, first-n f, at-or-past (n .numbers .result) thresholds (s .args .self .sums .n .0) (n .numbers .ensures .many) (numbers-max n) j))
     (at-or-past (s .args .self .h) thresholds (s .args .by .i) lh (s .pre .h-max))
-    (c .around .ensures)
+    (n .before .before .around .ensures)
 
 run-on-requires : tie.Need-run-on-requires Inv-loop μ-loop
 run-on-requires c κs =
     let i = c .before .loop .inv in
-    let f = c .before .before .before in
+    let f = stepped-at (c .before .before .before) in
     let t = c .loop-test .taken in
     record {
       bounded = i .bounded;
@@ -153,7 +152,7 @@ cross-requires c κs =
     let i = r .before .before .loop .inv in
     let e = r .run-on .ensures in
     record {
-      standing = standing _ _ _ _ _ _ _ _ _ _ _ _ _ i (all-fit (r .before .before .before .before)) (r .run-on .result .end) (omega (arith, e .on)) (e .within);
+      standing = standing _ _ _ _ _ _ _ _ _ _ _ _ _ i (all-fit (stepped-at (r .before .before .before .before))) (r .run-on .result .end) (omega (arith, e .on)) (e .within);
       was-max = i .around .sides .at-most;
       is-max = c .before .before .before .around2 .ensures .sides .at-most;
     }
@@ -167,7 +166,7 @@ loop-less c = let r = ran-at (c .before) .run-on in fall _ _ (r .result .end) (r
 loop-again : tie.Need-loop-again Inv-loop μ-loop
 loop-again c =
     let r = ran-at (c .before) in
-    turned _ _ _ _ _ _ _ _ _ _ _ _ _ (r .before .before .loop .inv) (all-fit (r .before .before .before .before)) (r .run-on .result .sums) (r .run-on .result .end) _ _ _ (r .run-on .ensures)
+    turned _ _ _ _ _ _ _ _ _ _ _ _ _ (r .before .before .loop .inv) (all-fit (stepped-at (r .before .before .before .before))) (r .run-on .result .sums) (r .run-on .result .end) _ _ _ (r .run-on .ensures)
     (c .before .before .before .before .around2 .ensures) _ _ _ (c .cross .ensures) (r .before .loop-test .taken)
 
 finish-requires : tie.Need-finish-requires Inv-loop μ-loop
@@ -175,7 +174,7 @@ finish-requires c κs =
     let l = c .before .before .before .before in
     let i = l .loop .inv in
     record {
-      standing = standing _ _ _ _ _ _ _ _ _ _ _ _ _ i (all-fit (l .before .before)) (l .loop .at) (omega arith) (i .within);
+      standing = standing _ _ _ _ _ _ _ _ _ _ _ _ _ i (all-fit (stepped-at (l .before .before))) (l .loop .at) (omega arith) (i .within);
       was-max = i .around .sides .at-most;
       is-max = omega arith;
     }
@@ -194,13 +193,14 @@ returns-2 c =
     let n = c .before in
     let o = n .before .before .before .before in
     let l = o .before in
-    let f = l .before .before in
+    let k = l .before .before in
+    let f = stepped-at k in
     let s = start-at f in
     typed (l .loop .sums) (counts-of (n .finish .ensures)) _ _ (c .counts2 .ensures)
     ∙ finished _ _ _ _ _ _ _ _ _ _ _ _ _ (l .loop .inv) (all-fit f) _ _ _ (n .finish .ensures) (o .loop-test .left)
-    ∙ sym (step-is (s .args .by) (s .args .self .sums) (f .step .result) (numbers-at f .numbers .result) (s .args .self .h) (s .args .xs .now) 0 (some-sample (filled-at f)) (stepped f))
+    ∙ sym (step-is (s .args .by) (s .args .self .sums) (f .step .result) (k .numbers .result) (s .args .self .h) (s .args .xs .now) 0 (some-sample (filled-at f)) (stepped f))
     ∙ ap (λ (x : List Samples). stateAfter (s .args .by) (record { sums = s .args .self .sums; a = x; h = s .args .self .h }) (s .args .xs .now))
-    (ap (λ (x : List ℕ). map samplesOf x) (numbers-are f) ∙ typed-again (s .args .self .a))
+    (ap (λ (x : List ℕ). map samplesOf x) (numbers-are k) ∙ typed-again (s .args .self .a))
 
 pub after-spec : {M : Type 1} → statement M
 after-spec =
@@ -209,10 +209,10 @@ after-spec =
     Inv-loop
     μ-loop
     returns
-    (λ c κs. search needs)
     shared-slice-copy-out-step
     step-requires
     around-requires
+    (λ c κs. search needs)
     loop-holds
     run-on-requires
     around-requires-2
