@@ -1,5 +1,4 @@
 // What a program reads and writes, together: all that waits is written before the program waits for input.
-ghost use Prim.Native.Nat.{_≤_};
 use crate::Coming;
 use crate::Source;
 use crate::source;

@@ -1,5 +1,5 @@
 -- What the functions inside this crate promise one another. Nothing here is part of what a meter promises.
-use mathlib.Core.Bool.{Bool, false, true, cond, _||_, _&&_}
+use mathlib.Core.Bool.{false, true, cond}
 use mathlib.Core.List.{List, [], _∷_}
 use mathlib.Core.Option.{Option, none, some}
 use mathlib.Core.Path.{_≡_}

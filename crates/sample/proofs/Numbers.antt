@@ -1,6 +1,6 @@
 -- Plain counts and counts of samples: the same list, read in two ways.
 use mathlib.Core.List.{List, [], _∷_, map}
-use mathlib.Core.Path.{_≡_, refl, ap, ap₂}
+use mathlib.Core.Path.{_≡_, refl, ap}
 use Prim.Native.Nat.{ℕ, zero, suc, _+_}
 use lib.ListN.{length, getD}
 use Rattle.level.specs.declared.Samples.{Samples}

@@ -2,7 +2,7 @@
 use borrow.Author.Needs.{needs}
 use borrow.Author.Tests.{lt-ltb, le-ltb}
 use mathlib.Core.List.{[], _∷_}
-use mathlib.Core.Path.{sym, ap, ap₂, _∙_, subst}
+use mathlib.Core.Path.{sym, ap, _∙_, subst}
 use Prim.Native.Nat.{ℕ, _+_, _^_, _≤_, _<_}
 use native.Mathlib.Omega.{arith}
 use lib.ListN.{length, getD}
@@ -12,7 +12,7 @@ use Rattle.meter.proofs.Possible.{Possible, possible}
 use Rattle.meter.specs.Calls.{handedBy, countingOf, afterSamples}
 use Rattle.meter.specs.Inner.{takenBy, refusedWith}
 use Rattle.meter.specs.Refusals.{tooMany}
-use Rattle.setting.specs.Settings.{kOf, iOf}
+use Rattle.setting.specs.Settings.{kOf}
 use Rattle.meter.specs.declared.Meter.{Meter}
 use Rattle.rate.proofs.Laws.{row-keeps}
 use Rattle.refusal.proofs.Laws.{here, past, none}
