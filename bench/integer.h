@@ -1,4 +1,4 @@
-/* The meter in whole numbers, and the part of a sample that plain.c and runs.c share. */
+/* The meter in whole numbers, and the parts of a sample that plain.c and runs.c share. */
 #ifndef INTEGER_H
 #define INTEGER_H
 
@@ -33,16 +33,17 @@ static inline uint64_t smooth(uint64_t k, uint64_t old, uint64_t new)
     return (old * (((uint64_t)1 << SMOOTHING_BITS) - k) + new * k) >> SMOOTHING_BITS;
 }
 
-/* Everything a sample changes except the counts. */
-static inline void step_sums(struct meter *m, int16_t x)
+/* |x|, in int: -32768 has no opposite in 16 bits. */
+static inline uint64_t rectified(int16_t x)
 {
-    uint64_t size = (uint64_t)abs(x); /* in int: -32768 has no opposite in 16 bits */
-    m->n += 1;
-    m->s += x;
-    m->sq_low += size * size;
-    m->sq_high += m->sq_low < size * size; /* the carry */
-    m->p = smooth(m->rate.k, m->p, size << UNIT_BITS);
-    m->q = smooth(m->rate.k, m->q, m->p);
+    return (uint64_t)abs(x);
+}
+
+/* Adds to the sum of squares. */
+static inline void add_squares(struct meter *m, uint64_t y)
+{
+    m->sq_low += y;
+    m->sq_high += m->sq_low < y; /* the carry */
 }
 
 #endif

@@ -1,6 +1,17 @@
 /* The definitions to the letter: every sample is counted at all fifteen thresholds. */
 #include "integer.h"
 
+/* Everything a sample changes except the counts. */
+static inline void step_sums(struct meter *m, int16_t x)
+{
+    uint64_t size = rectified(x);
+    m->n += 1;
+    m->s += x;
+    add_squares(m, size * size);
+    m->p = smooth(m->rate.k, m->p, size << UNIT_BITS);
+    m->q = smooth(m->rate.k, m->q, m->p);
+}
+
 static inline void count_sample(struct meter *m)
 {
     for (int j = 0; j < THRESHOLDS; j++) {

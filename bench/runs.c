@@ -1,7 +1,7 @@
 /* The same results, counted by runs. While the envelope stays between two neighbouring thresholds
  * no comparison changes its answer, so only the sums are stepped. Where it crosses a threshold the
  * counters of that threshold are brought up to date in closed form; the others go on standing as
- * they were, and all are brought up to date when the chunk ends. */
+ * they were, and all are brought up to date when the chunk ends. So are n and the sum of squares. */
 #include "integer.h"
 
 /* From low up to, not including, high. No threshold lies between them; those below place j are at
@@ -45,14 +45,31 @@ static void settle(struct meter *m, struct indices *c, int from, int to, int on,
     }
 }
 
-/* Steps the sums over samples from index i on until one takes the envelope out of the band. Gives
- * the index of that sample, or the number of samples. */
-static size_t step_inside(struct meter *m, struct band band, const int16_t *samples, size_t i,
-                          size_t count)
+/* What moves at each sample of a chunk: s, P and Q, and the squares of the chunk, in one word. */
+struct moving {
+    int64_t s;
+    uint64_t sq;
+    uint64_t p;
+    uint64_t q;
+};
+
+static inline void step(struct moving *v, uint64_t k, int16_t x)
+{
+    uint64_t size = rectified(x);
+    v->s += x;
+    v->sq += size * size;
+    v->p = smooth(k, v->p, size << UNIT_BITS);
+    v->q = smooth(k, v->q, v->p);
+}
+
+/* Steps over samples from index i on until one takes the envelope out of the band. Gives the index
+ * of that sample, or the number of samples. */
+static size_t step_inside(struct moving *v, uint64_t k, struct band band, const int16_t *samples,
+                          size_t i, size_t count)
 {
     for (; i < count; i++) {
-        step_sums(m, samples[i]);
-        if (m->q < band.low || band.high <= m->q)
+        step(v, k, samples[i]);
+        if (v->q < band.low || band.high <= v->q)
             break;
     }
     return i;
@@ -64,16 +81,24 @@ void meter_take(struct meter *m, const int16_t *samples, size_t count)
     if (count == 0)
         return;
     struct indices c = {{0}};
-    step_sums(m, samples[0]);
-    struct band band = around(m->q);
+    struct moving v = {m->s, 0, m->p, m->q};
+    step(&v, m->rate.k, samples[0]);
+    struct band band = around(v.q);
     size_t at = 0;
     while (at < count) {
-        at = step_inside(m, band, samples, at + 1, count);
-        struct band next = around(m->q);
-        settle(m, &c, band.below, next.below, 0, at);
-        settle(m, &c, next.below, band.below, 1, at);
+        at = step_inside(&v, m->rate.k, band, samples, at + 1, count);
+        struct band next = around(v.q);
+        if (band.below < next.below)
+            settle(m, &c, band.below, next.below, 0, at);
+        else
+            settle(m, &c, next.below, band.below, 1, at);
         band = next;
     }
     settle(m, &c, 0, band.below, 1, at);
     settle(m, &c, band.below, THRESHOLDS, 0, at);
+    m->n += count;
+    m->s = v.s;
+    add_squares(m, v.sq);
+    m->p = v.p;
+    m->q = v.q;
 }

@@ -3,8 +3,7 @@
 // each: a meter opened at that code takes the samples so many times over, in chunks of that length, and
 // its values are printed.
 ghost use mathlib.Core.Path.{_≡_};
-ghost use Prim.Native.Nat.{_≤_, _<_, min};
-ghost use lib.ListN.{length};
+ghost use Prim.Native.Nat.{_<_, min};
 use input::Streams;
 use meter::Meter;
 use setting::Setting;
@@ -54,29 +53,28 @@ fn chunk_length(held: &[u8]) -> usize
 
 // The meter after samples, so many times over, in chunks of a length.
 fn repeated(meter: Meter, rounds: u16, chunk: usize, samples: &[i16]) -> Meter
-    requires { ⌜ (0 < chunk) × (length (now samples) ≤ 32768) ⌝ }
+    requires { ⌜ 0 < chunk ⌝ }
 {
-    if samples.len() == 0 {
-        return meter;
-    }
     let mut meter = meter;
-    let mut from = 0;
-    let mut left = rounds as usize * samples.len();
+    let mut left = rounds;
     while 0 < left {
-        let to = from + least(chunk, samples.len() - from);
-        meter = meter.chunk(&samples[from..to]).meter;
-        left -= least(left, to - from);
-        from = next(to, samples.len());
+        meter = once(meter, chunk, samples);
+        left -= 1;
     }
     meter
 }
 
-// The place after a chunk: the first one again after the last.
-fn next(to: usize, all: usize) -> usize
-    requires { ⌜ 0 < all ⌝ }
-    ensures { λ r. ⌜ r < all ⌝ }
+// The meter after samples once, in chunks of a length and one of the rest.
+fn once(meter: Meter, chunk: usize, samples: &[i16]) -> Meter
+    requires { ⌜ 0 < chunk ⌝ }
 {
-    if to < all { to } else { 0 }
+    let mut meter = meter;
+    let mut from = 0;
+    while chunk <= samples.len() - from {
+        meter = meter.chunk(&samples[from..from + chunk]).meter;
+        from += chunk;
+    }
+    meter.chunk(&samples[from..]).meter
 }
 
 fn least(a: usize, b: usize) -> usize

@@ -14,6 +14,16 @@ pub two-of-words : (N : ℕ) → twoWords (words N) ≡ N
 unfolding words
 two-of-words N = div-add-mod' N (2 ^ 64)
 
+pub words-of-two : (q : Squares) → q .low < 2 ^ 64 → words (twoWords q) ≡ q
+unfolding words
+words-of-two q l = ap₂ (λ (x z : ℕ). record { high = x; low = z }) (high-of (q .high) (q .low) l) (low-of (q .high) (q .low) l)
+  where
+    high-of : (h l : ℕ) → l < 2 ^ 64 → (h * 2 ^ 64 + l) / 2 ^ 64 ≡ h
+    high-of h l b = omega arith
+
+    low-of : (h l : ℕ) → l < 2 ^ 64 → (h * 2 ^ 64 + l) % 2 ^ 64 ≡ l
+    low-of h l b = omega arith
+
 -- ---- the order: by the high words, and where those are equal by the low ones
 
 pub high-lt : (h l high low : ℕ) → l < 2 ^ 64 → h < high → h * 2 ^ 64 + l < high * 2 ^ 64 + low

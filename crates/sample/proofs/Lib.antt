@@ -1,7 +1,7 @@
 pub mod Activity
 pub mod Envelope
 mod Front
-pub mod Kept
+mod Moved
 mod Over
 pub mod Places
 mod Numbers

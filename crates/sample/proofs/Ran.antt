@@ -1,7 +1,7 @@
 -- A run, sample by sample: begun, gone on with, left, and ended with the samples.
 use mathlib.Core.List.{List, _∷_, map}
 use mathlib.Core.Path.{_≡_, ap, ap₂, _∙_, subst, sym}
-use Prim.Native.Nat.{ℕ, _+_, _-_, _≤_, _<_}
+use Prim.Native.Nat.{ℕ, _+_, _-_, _≤_, _<_, min}
 use native.Mathlib.Numerals.{add-one}
 use native.Mathlib.Omega.{arith}
 use lib.IntN.{ℤ, pos}
@@ -14,11 +14,12 @@ use Rattle.level.specs.declared.Samples.{Samples}
 use Rattle.sample.specs.declared.Counting.{Counting}
 use Rattle.sample.specs.declared.Sums.{Sums}
 use Rattle.sample.specs.declared.State.{State}
-use Rattle.sample.specs.Envelope.{threshold}
-use Rattle.sample.specs.Sample.{mostSamples, summed, counts, hangovers, stateAfterOne, stateAfter}
-use Rattle.sample.specs.StateAfter.{BoundedSums}
+use Rattle.sample.specs.declared.step.Moving.{Moving}
+use Rattle.sample.specs.Envelope.{smoothing, threshold}
+use Rattle.sample.specs.Sample.{summed, counts, hangovers, stateAfterOne, stateAfter}
+use Rattle.sample.specs.Inner.Steps.{moved, ended, Room}
 use Rattle.sample.specs.Inner.Runs.{plainCounts, countsBy, hangoversBy, Clear, stateOf, led, ledBy, Runnable, Ran}
-use Rattle.sample.proofs.Kept.{sums-kept}
+use Rattle.sample.proofs.Moved.{ended-more, room-less, room-kept}
 use Rattle.sample.proofs.Over.{same-side, one-counts, one-hangovers}
 use Rattle.sample.proofs.Numbers.{counts-plain}
 
@@ -51,62 +52,63 @@ no-more : (by : Counting) (m : Sums) (a h : List ℕ) (xs : List ℤ) (i : ℕ) 
 unfolding stateAfter
 no-more by m a h xs i l = ap (stateAfter by (stateOf m a h)) (drop-of-length-le xs l) ∙ sym (none-left by m a h xs i l)
 
--- the state that samples lead to from counters that stand for an envelope Q at index i
-abbrev standingAt : Counting → Sums → (Q i : ℕ) (since a h : List ℕ) → State
-standingAt by r Q i since a h = stateOf r (countsBy threshold thresholds (by .i) Q i since a h) (hangoversBy threshold thresholds (by .i) Q i since h)
+-- the state at index i, before the sample there: sums that were b and are now at r, and counters that stand for an envelope Q
+abbrev standingAt : Counting → (b : Sums) → Moving → (Q i : ℕ) (since a h : List ℕ) → State
+standingAt by b r Q i since a h =
+    stateOf (ended b r i) (countsBy threshold thresholds (by .i) Q i since a h) (hangoversBy threshold thresholds (by .i) Q i since h)
 
 -- how the run loop stands at index i: the samples before it are in the sums, and count from where each counter stands
-pub record Going (by : Counting) (low high : ℕ) (m : Sums) (xs : List ℤ) (at : ℕ) (r : Sums) (i : ℕ) : Type 0 where
+pub record Going (by : Counting) (low high : ℕ) (m : Moving) (xs : List ℤ) (at : ℕ) (r : Moving) (i : ℕ) : Type 0 where
   pub on : at < i
   pub within : i ≤ length xs
-  pub bounded : BoundedSums r
-  pub total : r .n .0 ≡ m .n .0 + (i - (at + 1))
-  pub same : (Q : ℕ) (since a h : List ℕ) → low ≤ Q → Q < high → Clear threshold low high → ((j : ℕ) → getD since j 0 ≤ at)
-      → ledBy by m Q at since a h (drop at xs) ≡ stateAfter by (standingAt by r Q i since a h) (drop i xs)
+  pub room : Room (length xs - i) r
+  pub same : (b : Sums) (Q : ℕ) (since a h : List ℕ) → low ≤ Q → Q < high → Clear threshold low high → ((j : ℕ) → getD since j 0 ≤ at)
+      → ledBy by b m Q at since a h xs ≡ stateAfter by (standingAt by b r Q i since a h) (drop i xs)
+
+-- up to a sample's index, as many samples as to the one after it
+pub up-to : (b : Sums) (r : Moving) (i l : ℕ) → i < l → ended b r (min (i + 1) l) ≡ ended b r (i + 1)
+up-to b r i l h = ap (ended b r) (omega arith)
+
+-- and up to the end all of them
+pub up-to-end : (b : Sums) (r : Moving) (i l : ℕ) → l ≤ i → ended b r (min (i + 1) l) ≡ ended b r l
+up-to-end b r i l h = ap (ended b r) (omega arith)
 
 -- a sample whose envelope is in the band counts where each counter stands
-counted-on : (by : Counting) (low high Q : ℕ) (r : Sums) (since a h : List ℕ) (xs : List ℤ) (i : ℕ) → i < length xs → low ≤ r .q → r .q < high → low ≤ Q → Q < high → Clear threshold low high
+counted-on : (by : Counting) (low high Q : ℕ) (b : Sums) (r : Moving) (since a h : List ℕ) (xs : List ℤ) (i : ℕ) → i < length xs → low ≤ r .q → r .q < high → low ≤ Q → Q < high → Clear threshold low high
     → ((j : ℕ) → getD since j 0 ≤ i)
-    → ledBy by r Q i since a h (drop i xs) ≡ stateAfter by (standingAt by r Q (i + 1) since a h) (drop (i + 1) xs)
-counted-on by low high Q r since a h xs i l lq qh p q c before =
+    → ledBy by b r Q i since a h xs ≡ stateAfter by (standingAt by b r Q (i + 1) since a h) (drop (i + 1) xs)
+counted-on by low high Q b r since a h xs i l lq qh p q c before =
     let s = same-side threshold low high (r .q) Q c lq qh p q in
-    count-is by r (countsBy threshold thresholds (by .i) Q i since a h) (hangoversBy threshold thresholds (by .i) Q i since h) xs i l
-    ∙ ap₂ (λ (x y : List ℕ). stateAfter by (stateOf r x y) (drop (i + 1) xs))
+    let A = countsBy threshold thresholds (by .i) Q i since a h in
+    let H = hangoversBy threshold thresholds (by .i) Q i since h in
+    ap (λ (t : Sums). led by t A H (drop i xs)) (up-to b r i (length xs) l)
+    ∙ count-is by (ended b r (i + 1)) A H xs i l
+    ∙ ap₂ (λ (x y : List ℕ). stateAfter by (stateOf (ended b r (i + 1)) x y) (drop (i + 1) xs))
     (one-counts threshold thresholds (by .i) Q (r .q) i since a h s before) (one-hangovers threshold thresholds (by .i) Q (r .q) i since a h s before)
 
-pub begun : (by : Counting) (low high : ℕ) (m : Sums) (xs : List ℤ) (at : ℕ) → Runnable by m low high xs at → Going by low high m xs at m (at + 1)
-begun by low high m xs at g =
+pub started : (by : Counting) (low high : ℕ) (m : Moving) (xs : List ℤ) (at : ℕ) → Runnable by m low high xs at → Going by low high m xs at m (at + 1)
+started by low high m xs at g =
     record {
       on = omega arith;
       within = omega (arith, g .some);
-      bounded = g .bounded;
-      total = omega arith;
-      same = λ Q since a h p q c before. counted-on by low high Q m since a h xs at (g .some) (g .from) (g .to) p q c before;
+      room = g .room;
+      same = λ b Q since a h p q c before. counted-on by low high Q b m since a h xs at (g .some) (g .from) (g .to) p q c before;
     }
 
-room : (n m i at l : ℕ) → n ≡ m + (i - (at + 1)) → at < i → i < l → m + (l - (at + 1)) ≤ mostSamples → n < mostSamples
-room n m i at l e a b h = omega arith
+-- there is room for a sample where there is one
+pub room-for-one : {by : Counting} {low high : ℕ} {m : Moving} {xs : List ℤ} {at : ℕ} {r : Moving} {i : ℕ} → Going by low high m xs at r i → i < length xs → Room 1 r
+room-for-one {xs = xs} {r = r} {i = i} g l = room-less 1 (length xs - i) r (omega arith) (g .room)
 
-pub room-in : {by : Counting} {low high : ℕ} {m : Sums} {xs : List ℤ} {at : ℕ} {r : Sums} {i : ℕ} → Going by low high m xs at r i → i < length xs
-    → m .n .0 + (length xs - (at + 1)) ≤ mostSamples → r .n .0 < mostSamples
-room-in {m = m} {xs = xs} {at = at} {r = r} {i = i} g l h = room (r .n .0) (m .n .0) i at (length xs) (g .total) (g .on) l h
+-- the sample at index i, in what moves
+module _ (by : Counting) (low high : ℕ) (m : Moving) (xs : List ℤ) (at : ℕ) (k : by .k ≤ smoothing) (r s : Moving) (i : ℕ) (g : Going by low high m xs at r i)
+    (l : i < length xs) (f : SFits w16 (getD xs i (pos 0))) (e : s ≡ moved (by .k) r (getD xs i (pos 0))) where
+  kept : Room (length xs - (i + 1)) s
+  kept = subst (Room (length xs - (i + 1))) (sym e) (room-kept (by .k) (length xs - (i + 1)) r (getD xs i (pos 0)) k f (room-less _ _ r (omega arith) (g .room)))
 
--- the sample at index i, in the sums
-module _ (by : Counting) (low high : ℕ) (m : Sums) (xs : List ℤ) (at : ℕ) (b : Runnable by m low high xs at) (r s : Sums) (i : ℕ) (g : Going by low high m xs at r i)
-    (l : i < length xs) (f : SFits w16 (getD xs i (pos 0))) (e : s ≡ summed (by .k) r (getD xs i (pos 0))) where
-  kept : BoundedSums s
-  kept = subst BoundedSums (sym e) (sums-kept (by .k) r (getD xs i (pos 0)) (b .k-max) (room-in g l (b .room)) f (g .bounded))
-
-  total : s .n .0 ≡ m .n .0 + (i + 1 - (at + 1))
-  unfolding summed
-  total = ap (λ (t : Sums). t .n .0) e ∙ more (r .n .0) (m .n .0) i at (g .total) (g .on)
-    where
-      more : (n m i at : ℕ) → n ≡ m + (i - (at + 1)) → at < i → n + 1 ≡ m + (i + 1 - (at + 1))
-      more n m i at e a = omega arith
-
-  stepped : (Q : ℕ) (since a h : List ℕ) → stateAfter by (standingAt by r Q i since a h) (drop i xs) ≡ ledBy by s Q i since a h (drop i xs)
-  stepped Q since a h =
-      step-is by r s (countsBy threshold thresholds (by .i) Q i since a h) (hangoversBy threshold thresholds (by .i) Q i since h) xs i l e
+  stepped : (b : Sums) (Q : ℕ) (since a h : List ℕ) → stateAfter by (standingAt by b r Q i since a h) (drop i xs) ≡ ledBy by b s Q i since a h xs
+  stepped b Q since a h =
+      step-is by (ended b r i) (ended b s (min (i + 1) (length xs))) (countsBy threshold thresholds (by .i) Q i since a h) (hangoversBy threshold thresholds (by .i) Q i since h) xs i l
+      (up-to b s i (length xs) l ∙ ap (λ (t : Moving). ended b t (i + 1)) e ∙ ended-more (by .k) b r i (getD xs i (pos 0)))
 
   -- it may end the run
   pub gone-out : Ran by low high m xs at s i
@@ -114,9 +116,8 @@ module _ (by : Counting) (low high : ℕ) (m : Sums) (xs : List ℤ) (at : ℕ) 
       record {
         on = g .on;
         within = g .within;
-        bounded = kept;
-        total = λ _. omega (arith, total);
-        same = λ Q since a h p q c before. g .same Q since a h p q c before ∙ stepped Q since a h;
+        room = kept;
+        same = λ b Q since a h p q c before. g .same b Q since a h p q c before ∙ stepped b Q since a h;
       }
 
   -- or keep the envelope in the band
@@ -125,19 +126,24 @@ module _ (by : Counting) (low high : ℕ) (m : Sums) (xs : List ℤ) (at : ℕ) 
       record {
         on = omega (arith, g .on);
         within = omega arith;
-        bounded = kept;
-        total = total;
-        same = λ Q since a h p q c before.
-            g .same Q since a h p q c before ∙ stepped Q since a h ∙ counted-on by low high Q s since a h xs i l lq qh p q c (λ j. omega (arith, before j, g .on));
+        room = kept;
+        same = λ b Q since a h p q c before.
+            g .same b Q since a h p q c before ∙ stepped b Q since a h ∙ counted-on by low high Q b s since a h xs i l lq qh p q c (λ j. omega (arith, before j, g .on));
       }
 
 -- the samples may end first
-pub ended : {by : Counting} {low high : ℕ} {m : Sums} {xs : List ℤ} {at : ℕ} {r : Sums} {i : ℕ} → Going by low high m xs at r i → length xs ≤ i → Ran by low high m xs at r i
-ended {by} {m = m} {xs = xs} {r = r} {i = i} g h =
+pub run-out : {by : Counting} {low high : ℕ} {m : Moving} {xs : List ℤ} {at : ℕ} {r : Moving} {i : ℕ} → Going by low high m xs at r i → length xs ≤ i → Ran by low high m xs at r i
+run-out {by} {m = m} {xs = xs} {r = r} {i = i} g h =
     record {
       on = g .on;
       within = g .within;
-      bounded = g .bounded;
-      total = λ l. absurd (omega arith);
-      same = λ Q since a b p q c before. g .same Q since a b p q c before ∙ no-more by r _ _ xs i h;
+      room = room-less _ _ r (omega arith) (g .room);
+      same = λ b Q since a h′ p q c before.
+          g .same b Q since a h′ p q c before
+          ∙ no-more by (ended b r i) _ _ xs i h
+          ∙ ap (λ (t : Sums). led by t (countsBy threshold thresholds (by .i) Q i since a h′) (hangoversBy threshold thresholds (by .i) Q i since h′) (drop i xs))
+          (ap (ended b r) (last i (length xs) (g .within) h));
     }
+  where
+    last : (i l : ℕ) → i ≤ l → l ≤ i → i ≡ min (i + 1) l
+    last i l p q = omega arith

@@ -122,14 +122,22 @@ module _ (k I at from : ℕ) (on : Bool) (a₀ h₀ s₀ a h s : List ℕ) (j : 
           each-one = λ i. each i (eqb i j) refl;
         }
 
--- the places may be told in another way
-pub by-places : (k I at : ℕ) (one other on : ℕ → Bool) (a h s a′ h′ s′ : List ℕ) → ((j : ℕ) → one j ≡ other j) → Settled k I at one on a h s a′ h′ s′ → Settled k I at other on a h s a′ h′ s′
-by-places k I at one other on a h s a′ h′ s′ e p =
+-- the places, and the side on which the envelope was at each of them, may be told in another way
+told-at : (I at : ℕ) (one other on₁ on : Bool) (a h s a′ h′ s′ : ℕ) → one ≡ other → (one ≡ true → on₁ ≡ on) → SettledAt I at one on₁ a h s a′ h′ s′ → SettledAt I at other on a h s a′ h′ s′
+told-at I at one other on₁ on a h s a′ h′ s′ e f p = subst (λ (t : Bool). SettledAt I at t on a h s a′ h′ s′) e (side one f p)
+  where
+    side : (t : Bool) → (t ≡ true → on₁ ≡ on) → SettledAt I at t on₁ a h s a′ h′ s′ → SettledAt I at t on a h s a′ h′ s′
+    side true g q = subst (λ (o : Bool). SettledAt I at true o a h s a′ h′ s′) (g refl) q
+    side false g q = record { count = q .count; hangover = q .hangover; index = q .index }
+
+pub by-places : (k I at : ℕ) (one other on₁ on : ℕ → Bool) (a h s a′ h′ s′ : List ℕ) → ((j : ℕ) → one j ≡ other j) → ((j : ℕ) → one j ≡ true → on₁ j ≡ on j)
+    → Settled k I at one on₁ a h s a′ h′ s′ → Settled k I at other on a h s a′ h′ s′
+by-places k I at one other on₁ on a h s a′ h′ s′ e f p =
     record {
       a-length = p .a-length;
       h-length = p .h-length;
       since-length = p .since-length;
-      each-one = λ j. subst (λ (t : Bool). SettledAt I at t (on j) (getD a j 0) (getD h j 0) (getD s j 0) (getD a′ j 0) (getD h′ j 0) (getD s′ j 0)) (e j) (p .each-one j);
+      each-one = λ j. told-at I at (one j) (other j) (on₁ j) (on j) _ _ _ _ _ _ (e j) (f j) (p .each-one j);
     }
 
 -- ---- twice
@@ -178,13 +186,13 @@ pub stands-hangover : (I at : ℕ) (one on is : Bool) (a h s a′ h′ s′ : �
 stands-hangover I at true on is a h s a′ h′ s′ p f = no-hangover I is (at - s′) h′ (ap (λ (x : ℕ). at - x) (p .index) ∙ sub-self at) ∙ p .hangover
 stands-hangover I at false on is a h s a′ h′ s′ p f = cc (f refl, p .hangover, p .index)
 
--- ---- bounds of a settled counter, where it was less than n more than its index
+-- ---- bounds of a settled counter, where it was at most n more than its index
 
 pub index-le : (I at : ℕ) (one on : Bool) (a h s a′ h′ s′ : ℕ) → SettledAt I at one on a h s a′ h′ s′ → s ≤ at → s′ ≤ at
 index-le I at true on a h s a′ h′ s′ p l = omega (arith, p .index)
 index-le I at false on a h s a′ h′ s′ p l = omega (arith, p .index)
 
-pub count-le : (I at : ℕ) (one on : Bool) (a h s a′ h′ s′ : ℕ) → SettledAt I at one on a h s a′ h′ s′ → (n : ℕ) → s ≤ at → a < n + s → a′ < n + s′
+pub count-le : (I at : ℕ) (one on : Bool) (a h s a′ h′ s′ : ℕ) → SettledAt I at one on a h s a′ h′ s′ → (n : ℕ) → s ≤ at → a ≤ n + s → a′ ≤ n + s′
 count-le I at true on a h s a′ h′ s′ p n l b = omega (arith, p .index, p .count, count-over-le I on (at - s) a h)
 count-le I at false on a h s a′ h′ s′ p n l b = omega (arith, p .index, p .count)
 

@@ -1,4 +1,4 @@
--- The border of `State::after`: what it asks for of a state, of what counting goes by, and of how many samples are new. Refusals 2 and 11 give it.
+-- The border of `State::after`: what it asks for of a state, of what counting goes by, and of how many samples are new. Refusals 2, 10 and 11 give it.
 use Prim.Native.Nat.{ℕ, _+_, _*_, _^_, _≤_, _<_}
 use lib.IntN.{natAbs}
 use lib.ListN.{getD}
@@ -23,3 +23,4 @@ pub record Within (by : Counting) (new : ℕ) (m : State) : Type 0 where
   pub h-max : (j : ℕ) → j < thresholds → getD (m .h) j 0 ≤ by .i
   pub k-max : by .k ≤ smoothing
   pub room : m .sums .n .0 + new ≤ mostSamples
+  pub few : new < 2 ^ 32

@@ -9,7 +9,7 @@ ghost use Rattle.sample.specs.Inner.Runs.{Crossable, Standing, Settled, 
 use level::THRESHOLDS;
 
 // The envelope, which was at or above so many of the thresholds, is now at or above so many: settles
-// the counters of those in between. It rose or it fell, so one of the two loops is empty.
+// the counters of those in between, which it was below where it rose and above where it fell.
 pub fn cross(
     a: &mut [u64; THRESHOLDS],
     h: &mut [u64; THRESHOLDS],
@@ -22,8 +22,11 @@ pub fn cross(
     requires { ⌜ Crossable thresholds hangover at was is (now a) (now h) (now since) ⌝ }
     ensures { λ _. ⌜ Settled thresholds hangover at (λ j. between was is j || between is was j) (λ j. ltb j was) (now (a .entry)) (now (h .entry)) (now (since .entry)) (now (a .exit)) (now (h .exit)) (now (since .exit)) ⌝ }
 {
-    settle(a, h, since, was, is, false, at, hangover);
-    settle(a, h, since, is, was, true, at, hangover);
+    if was < is {
+        settle(a, h, since, was, is, false, at, hangover);
+    } else {
+        settle(a, h, since, is, was, true, at, hangover);
+    }
 }
 
 // Settles all of them.

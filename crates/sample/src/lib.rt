@@ -3,7 +3,8 @@
 // The definition counts at every sample. The code counts by runs: while the envelope stays between
 // two neighbouring thresholds no test changes its answer, so only the sums are stepped. Where it
 // crosses a threshold, the counters of that threshold are brought up to date in closed form; those
-// of the others go on standing as they were, and all are brought up to date at the end.
+// of the others go on standing as they were, and all are brought up to date at the end. So are n and
+// sq: n only counts, and the squares of new samples fit one word.
 mod band;
 mod counters;
 mod plain;
@@ -54,18 +55,18 @@ impl State {
             return self;
         }
         let before = self.sums;
-        let mut sums = before.step(by, xs[0]);
-        let mut band = band::around(sums.q);
+        let mut moving = before.begin().step(by, xs[0]);
+        let mut band = band::around(moving.q);
         let counts = self.a;
         let mut a = plain::numbers(counts);
         let mut h = self.h;
         let mut since = [0u64; THRESHOLDS];
         let mut at = 0;
         while at < xs.len() {
-            let run = runs::run_on(sums, by, band, xs, at);
+            let run = runs::run_on(moving, by, band, xs, at);
             at = run.end;
-            sums = run.sums;
-            let next = band::around(sums.q);
+            moving = run.last;
+            let next = band::around(moving.q);
             counters::cross(
                 &mut a,
                 &mut h,
@@ -78,7 +79,10 @@ impl State {
             band = next;
         }
         counters::finish(&mut a, &mut h, &mut since, band.below, at as u64, by.i);
-        let a = plain::counts(a);
-        State { sums, a, h }
+        State {
+            sums: before.end(moving, xs.len()),
+            a: plain::counts(a),
+            h,
+        }
     }
 }

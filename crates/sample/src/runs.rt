@@ -1,33 +1,33 @@
 // A run: samples over which the envelope stays in one band.
 ghost use Rattle.sample.specs.Inner.Runs.{Runnable, Ran};
 use crate::Counting;
-use crate::Sums;
 use crate::band::Band;
+use crate::step::Moving;
 
-// The index at which a run ended, and the sums after the sample there; where the samples ended, the
-// sums after them all.
+// The index at which a run ended, and what the sample there left; where the samples ended, what all of
+// them left.
 pub struct Run {
-    pub sums: Sums,
+    pub last: Moving,
     pub end: usize,
 }
 
-// From the sums after the sample at index `at`, whose envelope is in the band, over the samples after
-// it, while the envelope stays in the band.
-pub fn run_on(first: Sums, by: Counting, band: Band, xs: &[i16], at: usize) -> Run
+// From what the sample at index `at` left, with the envelope in the band, over the samples after it,
+// while the envelope stays in the band.
+pub fn run_on(first: Moving, by: Counting, band: Band, xs: &[i16], at: usize) -> Run
     requires { ⌜ Runnable by first (band .low) (band .high) (now xs) at ⌝ }
-    ensures { λ r. ⌜ Ran by (band .low) (band .high) first (now (xs .entry)) at (r .sums) (r .end) ⌝ }
+    ensures { λ r. ⌜ Ran by (band .low) (band .high) first (now (xs .entry)) at (r .last) (r .end) ⌝ }
 {
-    let mut sums = first;
+    let mut last = first;
     let mut next = at + 1;
     while next < xs.len() {
-        sums = sums.step(by, xs[next]);
-        if sums.q < band.low {
-            return Run { sums, end: next };
+        last = last.step(by, xs[next]);
+        if last.q < band.low {
+            return Run { last, end: next };
         }
-        if band.high <= sums.q {
-            return Run { sums, end: next };
+        if band.high <= last.q {
+            return Run { last, end: next };
         }
         next += 1;
     }
-    Run { sums, end: next }
+    Run { last, end: next }
 }

@@ -1,9 +1,8 @@
-// The sums after one sample.
+// What moves at each new sample, begun from the sums before them all and ended in those after.
 ghost use mathlib.Core.Path.{_≡_};
 ghost use lib.IntN.{_+ℤ_};
 ghost use Rattle.sample.specs.Envelope.{smooth};
-ghost use Rattle.sample.specs.Inner.Steps.{Steppable, Smoothable, Addable, Rectified};
-ghost use Rattle.sample.specs.Sample.{summed};
+ghost use Rattle.sample.specs.Inner.Steps.{begun, moved, ended, Steppable, Endable, Smoothable, Addable, Rectified};
 use crate::Counting;
 use crate::Sums;
 use level::Samples;
@@ -14,21 +13,55 @@ const SMOOTHING: u64 = 1 << 20;
 // One quantizing interval, in units of P and Q.
 const INTERVAL: u64 = 1 << 24;
 
-impl Sums {
-    pub(crate) fn step(self, by: Counting, x: i16) -> Sums
+// What moves at each new sample: s, P and Q, and sq of the new samples alone, in one word.
+pub struct Moving {
+    pub s: i64,
+    pub sq: u64,
+    pub p: u64,
+    pub q: u64,
+}
+
+impl Moving {
+    pub fn step(self, by: Counting, x: i16) -> Moving
         requires { ⌜ Steppable (by .k) self ⌝ }
-        ensures { λ r. ⌜ r ≡ summed (by .k) self x ⌝ }
+        ensures { λ r. ⌜ r ≡ moved (by .k) self x ⌝ }
     {
         let size = rectified(x);
-        let sq = self.sq;
         let p = smoothed(by.k, self.p, size * INTERVAL);
         let q = smoothed(by.k, self.q, p);
-        Sums {
-            n: Samples::of(self.n.count() + 1),
+        Moving {
             s: added(self.s, x),
-            sq: sq.grown(size * size),
+            sq: self.sq + size * size,
             p,
             q,
+        }
+    }
+}
+
+impl Sums {
+    pub(crate) fn begin(self) -> Moving
+        ensures { λ r. ⌜ r ≡ begun self ⌝ }
+    {
+        Moving {
+            s: self.s,
+            sq: 0,
+            p: self.p,
+            q: self.q,
+        }
+    }
+
+    // After so many samples, the last of which left `last`.
+    pub(crate) fn end(self, last: Moving, new: usize) -> Sums
+        requires { ⌜ Endable self new ⌝ }
+        ensures { λ r. ⌜ r ≡ ended self last new ⌝ }
+    {
+        let sq = self.sq;
+        Sums {
+            n: Samples::of(self.n.count() + new as u64),
+            s: last.s,
+            sq: sq.grown(last.sq),
+            p: last.p,
+            q: last.q,
         }
     }
 }

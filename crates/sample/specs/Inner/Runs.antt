@@ -4,7 +4,7 @@ use mathlib.Core.Bool.{Bool, cond, _&&_}
 use mathlib.Core.List.{List, [], _∷_, map}
 use mathlib.Core.Logic.{_⊎_}
 use mathlib.Core.Path.{_≡_}
-use Prim.Native.Nat.{ℕ, zero, suc, _+_, _-_, _^_, _≤_, _<_}
+use Prim.Native.Nat.{ℕ, zero, suc, _+_, _-_, _^_, _≤_, _<_, min}
 use lib.Dec.{leb, ltb}
 use lib.IntN.{ℤ}
 use lib.ListN.{length, getD, drop}
@@ -13,10 +13,11 @@ use Rattle.level.specs.Types.{samplesOf, thresholds}
 use Rattle.sample.specs.declared.Counting.{Counting}
 use Rattle.sample.specs.declared.Sums.{Sums}
 use Rattle.sample.specs.declared.State.{State}
+use Rattle.sample.specs.declared.step.Moving.{Moving}
 use Rattle.sample.specs.Activity.{counted, hung}
 use Rattle.sample.specs.Envelope.{smoothing, threshold}
-use Rattle.sample.specs.Sample.{mostSamples, each, hangovers, stateAfter}
-use Rattle.sample.specs.StateAfter.{BoundedSums}
+use Rattle.sample.specs.Sample.{each, hangovers, stateAfter}
+use Rattle.sample.specs.Inner.Steps.{ended, Room}
 
 -- one counter after d samples on the same side of its threshold
 unfoldable pub hangoverOver : (I : ℕ) (on : Bool) (d h : ℕ) → ℕ
@@ -110,26 +111,25 @@ led by m a h [] = stateOf m a h
 led by m a h (x ∷ xs) =
     stateAfter by (stateOf m (plainCounts threshold thresholds (by .i) (m .q) a h) (hangovers threshold thresholds (by .i) (m .q) h)) xs
 
--- the same, by counters that stand for an envelope Q at an index
-abbrev pub ledBy : Counting → Sums → (Q i : ℕ) (since a h : List ℕ) → List ℤ → State
-ledBy by m Q i since a h xs =
-    led by m (countsBy threshold thresholds (by .i) Q i since a h) (hangoversBy threshold thresholds (by .i) Q i since h) xs
+-- the same of all samples xs: the sums were b before them, those up to index i, the one there among them, left m, and the counters stand for an
+-- envelope Q at that index
+abbrev pub ledBy : Counting → (b : Sums) → Moving → (Q i : ℕ) (since a h : List ℕ) → List ℤ → State
+ledBy by b m Q i since a h xs =
+    led by (ended b m (min (i + 1) (length xs))) (countsBy threshold thresholds (by .i) Q i since a h) (hangoversBy threshold thresholds (by .i) Q i since h) (drop i xs)
 
--- sums m after the sample at index at, whose envelope is in a band, from which a run can start
-pub record Runnable (by : Counting) (m : Sums) (low high : ℕ) (xs : List ℤ) (at : ℕ) : Type 0 where
-  pub bounded : BoundedSums m
+-- what the sample at index at left, with its envelope in a band, from which a run can start
+pub record Runnable (by : Counting) (m : Moving) (low high : ℕ) (xs : List ℤ) (at : ℕ) : Type 0 where
+  pub room : Room (length xs - (at + 1)) m
   pub from : low ≤ m .q
   pub to : m .q < high
   pub k-max : by .k ≤ smoothing
   pub some : at < length xs
-  pub room : m .n .0 + (length xs - (at + 1)) ≤ mostSamples
 
--- from such sums, samples that keep the envelope from low up to high lead to index end; r is the sums after the sample there or, where the samples
--- end there, after them all. Counters that stand for an envelope of the band need no settling meanwhile
-pub record Ran (by : Counting) (low high : ℕ) (m : Sums) (xs : List ℤ) (at : ℕ) (r : Sums) (end : ℕ) : Type 0 where
+-- from there, samples that keep the envelope from low up to high lead to index end; r is what the sample there left or, where the samples end there,
+-- what all of them left. Counters that stand for an envelope of the band need no settling meanwhile
+pub record Ran (by : Counting) (low high : ℕ) (m : Moving) (xs : List ℤ) (at : ℕ) (r : Moving) (end : ℕ) : Type 0 where
   pub on : at < end
   pub within : end ≤ length xs
-  pub bounded : BoundedSums r
-  pub total : end < length xs → r .n .0 ≡ m .n .0 + (end - at)
-  pub same : (Q : ℕ) (since a h : List ℕ) → low ≤ Q → Q < high → Clear threshold low high → ((j : ℕ) → getD since j 0 ≤ at)
-      → ledBy by m Q at since a h (drop at xs) ≡ ledBy by r Q end since a h (drop end xs)
+  pub room : Room (length xs - (end + 1)) r
+  pub same : (b : Sums) (Q : ℕ) (since a h : List ℕ) → low ≤ Q → Q < high → Clear threshold low high → ((j : ℕ) → getD since j 0 ≤ at)
+      → ledBy by b m Q at since a h xs ≡ ledBy by b r Q end since a h xs

@@ -69,6 +69,7 @@ after-requires c κs =
       h-max = held m p;
       k-max = k-small m p;
       room = total (λ t. t ≤ mostSamples) (c .before .before) (c .before .if1 .left);
+      few = omega (arith, s .pre .few);
     })
 
 returns-2 : tie.Need-returns-2

@@ -2,6 +2,7 @@
 use borrow.Author.Needs.{needs}
 use mathlib.Core.Bool.{Bool, false}
 use mathlib.Core.List.{List}
+use mathlib.Core.Path.{refl}
 use Prim.Native.Nat.{ℕ, _-_, _≤_, max}
 use native.Mathlib.Omega.{arith}
 use lib.ListN.{getD}
@@ -68,7 +69,7 @@ returns : tie.Need-returns Inv-loop μ-loop
 returns c =
     let l = c .before .loop in
     let s = c .before .before .args in
-    by-places _ _ _ _ _ _ _ _ _ _ _ _ (λ j. same-places (s .from) (s .to) (l .j) j (l .inv .reached) (l .inv .below) (c .loop-test .left)) (l .inv .so-far)
+    by-places _ _ _ _ _ _ _ _ _ _ _ _ _ (λ j. same-places (s .from) (s .to) (l .j) j (l .inv .reached) (l .inv .below) (c .loop-test .left)) (λ j e. refl) (l .inv .so-far)
 
 pub settle-spec : {M : Type 1} → statement M
 settle-spec =

@@ -8,25 +8,25 @@ use lib.ListN.{length, getD}
 use mir.Syntax.{w16}
 use mir.Val.{SFits}
 use mir.Facts.{toZ-ofZ}
-use Rattle.sample.specs.Sample.{summed}
+use Rattle.sample.specs.Inner.Steps.{moved}
 use Rattle.sample.specs.Inner.Runs.{Ran}
-use Rattle.sample.proofs.Ran.{Going, begun, ended, room-in, gone-out, gone-on}
+use Rattle.sample.proofs.Ran.{Going, started, run-out, room-for-one, gone-out, gone-on}
 use Rattle.sample.proofs.runs.run_on.Statement.{statement}
 use Rattle.sample.proofs.runs.run_on.Tie as tie
 
 abbrev Inv-loop : tie.InvT-loop
-Inv-loop by band xs at sums₀ next₀ sums next = Going by (band .low) (band .high) sums₀ xs at sums next
+Inv-loop by band xs at last₀ next₀ last next = Going by (band .low) (band .high) last₀ xs at last next
 
 abbrev μ-loop : tie.MeasureT-loop
-μ-loop by band xs at sums₀ next₀ sums next = length xs - next
+μ-loop by band xs at last₀ next₀ last next = length xs - next
 
--- the sample at i, and the sums after it
+-- the sample at i, and what it leaves
 fits : (c : tie.After-step-arg Inv-loop μ-loop) → SFits w16 (getD (c .before .before .before .args .xs .now) (c .before .before .loop .next) (pos 0))
 fits c = record { sfits = c .step-arg .given }
 
 stepped : (c : tie.After-step Inv-loop μ-loop)
-    → c .step .result ≡ summed (c .before .before .before .before .args .by .k) (c .before .before .before .loop .sums) (getD (c .before .before .before .before .args .xs .now) (c .before .before .before .loop .next) (pos 0))
-stepped c = c .step .ensures ∙ ap (summed _ _) (toZ-ofZ (fits (c .before)))
+    → c .step .result ≡ moved (c .before .before .before .before .args .by .k) (c .before .before .before .loop .last) (getD (c .before .before .before .before .args .xs .now) (c .before .before .before .loop .next) (pos 0))
+stepped c = c .step .ensures ∙ ap (moved _ _) (toZ-ofZ (fits (c .before)))
 
 out : (c : tie.After-step Inv-loop μ-loop)
     → Ran (c .before .before .before .before .args .by) (c .before .before .before .before .args .band .low) (c .before .before .before .before .args .band .high) (c .before .before .before .before .args .first)
@@ -34,17 +34,17 @@ out : (c : tie.After-step Inv-loop μ-loop)
 out c =
     let l = c .before .before .before .loop in
     let s = c .before .before .before .before in
-    gone-out (s .args .by) _ _ (s .args .first) (s .args .xs .now) (s .args .at) (s .pre) (l .sums) _ (l .next) (l .inv)
+    gone-out (s .args .by) _ _ (s .args .first) (s .args .xs .now) (s .args .at) (s .pre .k-max) (l .last) _ (l .next) (l .inv)
     (c .before .before .loop-test .taken) (fits (c .before)) (stepped c)
 
 loop-holds : tie.Need-loop-holds Inv-loop μ-loop
-loop-holds c = begun (c .args .by) _ _ (c .args .first) (c .args .xs .now) (c .args .at) (c .pre)
+loop-holds c = started (c .args .by) _ _ (c .args .first) (c .args .xs .now) (c .args .at) (c .pre)
 
 step-requires : tie.Need-step-requires Inv-loop μ-loop
 step-requires c κs =
     let l = c .before .before .loop in
     let s = c .before .before .before in
-    record { bounded = l .inv .bounded; k-max = s .pre .k-max; room = room-in (l .inv) (c .before .loop-test .taken) (s .pre .room) }
+    record { k-max = s .pre .k-max; room = room-for-one (l .inv) (c .before .loop-test .taken) }
 
 returns : tie.Need-returns Inv-loop μ-loop
 returns c = out (c .before .before .before)
@@ -62,11 +62,11 @@ loop-again c =
     let st = c .before .before .before .before .before .before in
     let l = st .before .before .before .loop in
     let s = st .before .before .before .before in
-    gone-on (s .args .by) _ _ (s .args .first) (s .args .xs .now) (s .args .at) (s .pre) (l .sums) _ (l .next) (l .inv)
+    gone-on (s .args .by) _ _ (s .args .first) (s .args .xs .now) (s .args .at) (s .pre .k-max) (l .last) _ (l .next) (l .inv)
     (st .before .before .loop-test .taken) (fits (st .before)) (stepped st) (c .before .before .before .if1 .left) (c .if2 .left)
 
 returns-3 : tie.Need-returns-3 Inv-loop μ-loop
-returns-3 c = ended (c .before .loop .inv) (c .loop-test .left)
+returns-3 c = run-out (c .before .loop .inv) (c .loop-test .left)
 
 pub run-on-spec : {M : Type 1} → statement M
 run-on-spec =

@@ -1,0 +1,69 @@
+-- What moves at each new sample: it stands for the sums, and room for samples stays.
+use mathlib.Core.Path.{_≡_, ap, ap₂, _∙_}
+use Prim.Native.Nat.{ℕ, _+_, _*_, _^_, _≤_, _<_}
+use native.Mathlib.Nat.{add-zero, mul-le-mul}
+use native.Mathlib.Omega.{arith}
+use lib.IntN.{ℤ, natAbs}
+use mir.Syntax.{w16}
+use mir.Val.{SFits}
+use Rattle.level.specs.declared.Squares.{Squares}
+use Rattle.level.specs.Types.{samplesOf, twoWords, words}
+use Rattle.level.proofs.Words.{two-of-words, words-of-two}
+use Rattle.signed.proofs.Sizes.{abs-sum}
+use Rattle.sample.specs.declared.Sums.{Sums}
+use Rattle.sample.specs.declared.step.Moving.{Moving}
+use Rattle.sample.specs.Envelope.{smoothing, smooth, rectified}
+use Rattle.sample.specs.Inner.Steps.{begun, moved, ended, Room}
+use Rattle.sample.specs.Sample.{mostSamples, summed}
+use Rattle.sample.specs.StateAfter.{BoundedSums}
+use Rattle.sample.proofs.Envelope.{smooth-le}
+use Rattle.sample.proofs.Signs.{small}
+
+-- ---- it stands for the sums
+
+-- before the first sample
+pub ended-none : (b : Sums) → b .sq .low < 2 ^ 64 → ended b (begun b) 0 ≡ b
+ended-none b l =
+    ap₂ (λ (k : ℕ) (t : Squares). record { n = samplesOf k; s = b .s; sq = t; p = b .p; q = b .q })
+    (add-zero (b .n .0)) (ap words (add-zero (twoWords (b .sq))) ∙ words-of-two (b .sq) l)
+
+-- and after a sample
+pub ended-more : (K : ℕ) (b : Sums) (m : Moving) (new : ℕ) (x : ℤ) → ended b (moved K m x) (new + 1) ≡ summed K (ended b m new) x
+unfolding moved summed
+ended-more K b m new x =
+    ap₂ (λ (k t : ℕ). record { n = samplesOf k; s = moved K m x .s; sq = words t; p = moved K m x .p; q = moved K m x .q })
+    (omega arith) (more (twoWords (b .sq)) (m .sq) _ (natAbs x * natAbs x) (two-of-words (twoWords (b .sq) + m .sq)))
+  where
+    more : (t sq w y : ℕ) → w ≡ t + sq → t + (sq + y) ≡ w + y
+    more t sq w y e = omega arith
+
+-- ---- room
+
+pub room-first : (b : Sums) (new : ℕ) → BoundedSums b → b .n .0 + new ≤ mostSamples → new < 2 ^ 32 → Room new (begun b)
+room-first b new h r f =
+    record { s-max = s-room (b .n .0) _ new (h .s-max) r; sq-max = omega arith; p-max = h .p-max; q-max = h .q-max }
+  where
+    s-room : (n s new : ℕ) → s ≤ n * 2 ^ 15 → n + new ≤ mostSamples → s + new * 2 ^ 15 ≤ 2 ^ 63
+    s-room n s new h k = omega arith
+
+pub room-less : (k left : ℕ) (m : Moving) → k ≤ left → Room left m → Room k m
+room-less k left m l r =
+    record { s-max = omega (arith, r .s-max); sq-max = omega (arith, r .sq-max); p-max = r .p-max; q-max = r .q-max }
+
+pub room-kept : (K left : ℕ) (m : Moving) (x : ℤ) → K ≤ smoothing → SFits w16 x → Room (left + 1) m → Room left (moved K m x)
+unfolding moved rectified
+room-kept K left m x k f r =
+    let sx = small x f in
+    let P : smooth K (m .p) (natAbs x * 2 ^ 24) ≤ 2 ^ 40 = smooth-le K (2 ^ 40) (m .p) (natAbs x * 2 ^ 24) k (r .p-max) (omega (arith, sx)) in
+    record {
+      s-max = s-more _ _ _ left (abs-sum (m .s) x) sx (r .s-max);
+      sq-max = sq-more (m .sq) _ left (mul-le-mul sx sx) (r .sq-max);
+      p-max = P;
+      q-max = smooth-le K (2 ^ 40) (m .q) _ k (r .q-max) P;
+    }
+  where
+    s-more : (s x t left : ℕ) → t ≤ s + x → x ≤ 2 ^ 15 → s + (left + 1) * 2 ^ 15 ≤ 2 ^ 63 → t + left * 2 ^ 15 ≤ 2 ^ 63
+    s-more s x t left a b d = omega arith
+
+    sq-more : (sq y left : ℕ) → y ≤ 2 ^ 15 * 2 ^ 15 → sq + (left + 1) * 2 ^ 32 < 2 ^ 64 → sq + y + left * 2 ^ 32 < 2 ^ 64
+    sq-more sq y left h r = omega arith
