@@ -86,8 +86,8 @@ counted-on by low high Q b r since a h xs i l lq qh p q c before =
     ∙ ap₂ (λ (x y : List ℕ). stateAfter by (stateOf (ended b r (i + 1)) x y) (drop (i + 1) xs))
     (one-counts threshold thresholds (by .i) Q (r .q) i since a h s before) (one-hangovers threshold thresholds (by .i) Q (r .q) i since a h s before)
 
-pub started : (by : Counting) (low high : ℕ) (m : Moving) (xs : List ℤ) (at : ℕ) → Runnable by m low high xs at → Going by low high m xs at m (at + 1)
-started by low high m xs at g =
+pub set-out : (by : Counting) (low high : ℕ) (m : Moving) (xs : List ℤ) (at : ℕ) → Runnable by m low high xs at → Going by low high m xs at m (at + 1)
+set-out by low high m xs at g =
     record {
       on = omega arith;
       within = omega (arith, g .some);

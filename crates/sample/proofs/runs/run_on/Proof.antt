@@ -10,7 +10,7 @@ use mir.Val.{SFits}
 use mir.Facts.{toZ-ofZ}
 use Rattle.sample.specs.Inner.Steps.{moved}
 use Rattle.sample.specs.Inner.Runs.{Ran}
-use Rattle.sample.proofs.Ran.{Going, started, run-out, room-for-one, gone-out, gone-on}
+use Rattle.sample.proofs.Ran.{Going, set-out, run-out, room-for-one, gone-out, gone-on}
 use Rattle.sample.proofs.runs.run_on.Statement.{statement}
 use Rattle.sample.proofs.runs.run_on.Tie as tie
 
@@ -38,7 +38,7 @@ out c =
     (c .before .before .loop-test .taken) (fits (c .before)) (stepped c)
 
 loop-holds : tie.Need-loop-holds Inv-loop μ-loop
-loop-holds c = started (c .args .by) _ _ (c .args .first) (c .args .xs .now) (c .args .at) (c .pre)
+loop-holds c = set-out (c .args .by) _ _ (c .args .first) (c .args .xs .now) (c .args .at) (c .pre)
 
 step-requires : tie.Need-step-requires Inv-loop μ-loop
 step-requires c κs =
