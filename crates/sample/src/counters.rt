@@ -9,7 +9,7 @@ ghost use Rattle.sample.specs.Inner.Runs.{Crossable, Standing, Settled, 
 use level::THRESHOLDS;
 
 // The envelope, which was at or above so many of the thresholds, is now at or above so many: settles
-// the counters of those in between, which it was below where it rose and above where it fell.
+// the counters of those in between. Where it rose it was below them until now, else at or above them.
 pub fn cross(
     a: &mut [u64; THRESHOLDS],
     h: &mut [u64; THRESHOLDS],

@@ -22,6 +22,7 @@ pub struct Moving {
 }
 
 impl Moving {
+    // After a sample.
     pub fn step(self, by: Counting, x: i16) -> Moving
         requires { ⌜ Steppable (by .k) self ⌝ }
         ensures { λ r. ⌜ r ≡ moved (by .k) self x ⌝ }
@@ -39,6 +40,7 @@ impl Moving {
 }
 
 impl Sums {
+    // Before the first new sample.
     pub(crate) fn begin(self) -> Moving
         ensures { λ r. ⌜ r ≡ begun self ⌝ }
     {
@@ -50,7 +52,7 @@ impl Sums {
         }
     }
 
-    // After so many samples, the last of which left `last`.
+    // After so many new samples, which left `last`.
     pub(crate) fn end(self, last: Moving, new: usize) -> Sums
         requires { ⌜ Endable self new ⌝ }
         ensures { λ r. ⌜ r ≡ ended self last new ⌝ }
