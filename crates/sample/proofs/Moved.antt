@@ -12,7 +12,7 @@ use Rattle.level.proofs.Words.{two-of-words, words-of-two}
 use Rattle.signed.proofs.Sizes.{abs-sum}
 use Rattle.sample.specs.declared.Sums.{Sums}
 use Rattle.sample.specs.declared.step.Moving.{Moving}
-use Rattle.sample.specs.Envelope.{smoothing, smooth, rectified}
+use Rattle.sample.specs.Envelope.{smoothing, rectified}
 use Rattle.sample.specs.Inner.Steps.{begun, moved, ended, Room}
 use Rattle.sample.specs.Sample.{mostSamples, summed}
 use Rattle.sample.specs.StateAfter.{BoundedSums}
@@ -50,11 +50,15 @@ pub room-less : (k left : ℕ) (m : Moving) → k ≤ left → Room left m → R
 room-less k left m l r =
     record { s-max = omega (arith, r .s-max); sq-max = omega (arith, r .sq-max); p-max = r .p-max; q-max = r .q-max }
 
+rectified-le : (x : ℤ) → SFits w16 x → rectified x ≤ 2 ^ 40
+unfolding rectified
+rectified-le x f = omega (arith, small x f)
+
 pub room-kept : (K left : ℕ) (m : Moving) (x : ℤ) → K ≤ smoothing → SFits w16 x → Room (left + 1) m → Room left (moved K m x)
-unfolding moved rectified
+unfolding moved
 room-kept K left m x k f r =
     let sx = small x f in
-    let P : smooth K (m .p) (natAbs x * 2 ^ 24) ≤ 2 ^ 40 = smooth-le K (2 ^ 40) (m .p) (natAbs x * 2 ^ 24) k (r .p-max) (omega (arith, sx)) in
+    let P = smooth-le K (2 ^ 40) (m .p) (rectified x) k (r .p-max) (rectified-le x f) in
     record {
       s-max = s-more _ _ _ left (abs-sum (m .s) x) sx (r .s-max);
       sq-max = sq-more (m .sq) _ left (mul-le-mul sx sx) (r .sq-max);
