@@ -1,6 +1,6 @@
 -- What moves at each new sample: it stands for the sums, and room for samples stays.
-use mathlib.Core.Path.{_≡_, ap, ap₂, _∙_}
-use Prim.Native.Nat.{ℕ, _+_, _*_, _^_, _≤_, _<_}
+use mathlib.Core.Path.{_≡_, ap, ap₂, _∙_, subst, sym}
+use Prim.Native.Nat.{ℕ, _+_, _-_, _*_, _^_, _≤_, _<_, min}
 use native.Mathlib.Nat.{add-zero, mul-le-mul}
 use native.Mathlib.Omega.{arith}
 use lib.IntN.{ℤ, natAbs}
@@ -21,6 +21,14 @@ use Rattle.sample.proofs.Signs.{small}
 
 -- ---- it stands for the sums
 
+-- up to a sample's index, as many samples as to the one after it
+pub up-to : (b : Sums) (r : Moving) (i l : ℕ) → i < l → ended b r (min (i + 1) l) ≡ ended b r (i + 1)
+up-to b r i l h = ap (ended b r) (omega arith)
+
+-- and up to the end all of them
+pub up-to-end : (b : Sums) (r : Moving) (i l : ℕ) → l ≤ i → ended b r (min (i + 1) l) ≡ ended b r l
+up-to-end b r i l h = ap (ended b r) (omega arith)
+
 -- before the first sample
 pub ended-none : (b : Sums) → b .sq .low < 2 ^ 64 → ended b (begun b) 0 ≡ b
 ended-none b l =
@@ -36,6 +44,10 @@ ended-more K b m new x =
   where
     more : (t sq w y : ℕ) → w ≡ t + sq → t + (sq + y) ≡ w + y
     more t sq w y e = omega arith
+
+-- what moves after the sample at index i, of l in all, stands for the definition's sums
+pub ended-at : (K : ℕ) (b : Sums) (m r : Moving) (x : ℤ) (i l : ℕ) → i < l → r ≡ moved K m x → ended b r (min (i + 1) l) ≡ summed K (ended b m i) x
+ended-at K b m r x i l h e = up-to b r i l h ∙ ap (λ (t : Moving). ended b t (i + 1)) e ∙ ended-more K b m i x
 
 -- ---- room
 
@@ -54,7 +66,7 @@ rectified-le : (x : ℤ) → SFits w16 x → rectified x ≤ 2 ^ 40
 unfolding rectified
 rectified-le x f = omega (arith, small x f)
 
-pub room-kept : (K left : ℕ) (m : Moving) (x : ℤ) → K ≤ smoothing → SFits w16 x → Room (left + 1) m → Room left (moved K m x)
+room-kept : (K left : ℕ) (m : Moving) (x : ℤ) → K ≤ smoothing → SFits w16 x → Room (left + 1) m → Room left (moved K m x)
 unfolding moved
 room-kept K left m x k f r =
     let sx = small x f in
@@ -71,3 +83,7 @@ room-kept K left m x k f r =
 
     sq-more : (sq y left : ℕ) → y ≤ 2 ^ 15 * 2 ^ 15 → sq + (left + 1) * 2 ^ 32 < 2 ^ 64 → sq + y + left * 2 ^ 32 < 2 ^ 64
     sq-more sq y left h r = omega arith
+
+-- after the sample at index i, of l in all, room for those after it
+pub room-after : (K : ℕ) (m r : Moving) (x : ℤ) (i l : ℕ) → i < l → K ≤ smoothing → SFits w16 x → r ≡ moved K m x → Room (l - i) m → Room (l - (i + 1)) r
+room-after K m r x i l h k f e g = subst (Room (l - (i + 1))) (sym e) (room-kept K (l - (i + 1)) m x k f (room-less (l - (i + 1) + 1) (l - i) m (omega arith) g))

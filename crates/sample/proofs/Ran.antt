@@ -1,6 +1,6 @@
 -- A run, sample by sample: begun, gone on with, left, and ended with the samples.
 use mathlib.Core.List.{List, _∷_, map}
-use mathlib.Core.Path.{_≡_, ap, ap₂, _∙_, subst, sym}
+use mathlib.Core.Path.{_≡_, ap, ap₂, _∙_, sym}
 use Prim.Native.Nat.{ℕ, _+_, _-_, _≤_, _<_, min}
 use native.Mathlib.Numerals.{add-one}
 use native.Mathlib.Omega.{arith}
@@ -19,7 +19,7 @@ use Rattle.sample.specs.Envelope.{smoothing, threshold}
 use Rattle.sample.specs.Sample.{summed, counts, hangovers, stateAfterOne, stateAfter}
 use Rattle.sample.specs.Inner.Steps.{moved, ended, Room}
 use Rattle.sample.specs.Inner.Runs.{plainCounts, countsBy, hangoversBy, Clear, stateOf, led, ledBy, Runnable, Ran}
-use Rattle.sample.proofs.Moved.{ended-more, room-less, room-kept}
+use Rattle.sample.proofs.Moved.{up-to, ended-at, room-less, room-after}
 use Rattle.sample.proofs.Over.{same-side, one-counts, one-hangovers}
 use Rattle.sample.proofs.Numbers.{counts-plain}
 
@@ -65,14 +65,6 @@ pub record Going (by : Counting) (low high : ℕ) (m : Moving) (xs : List ℤ) (
   pub same : (b : Sums) (Q : ℕ) (since a h : List ℕ) → low ≤ Q → Q < high → Clear threshold low high → ((j : ℕ) → getD since j 0 ≤ at)
       → ledBy by b m Q at since a h xs ≡ stateAfter by (standingAt by b r Q i since a h) (drop i xs)
 
--- up to a sample's index, as many samples as to the one after it
-pub up-to : (b : Sums) (r : Moving) (i l : ℕ) → i < l → ended b r (min (i + 1) l) ≡ ended b r (i + 1)
-up-to b r i l h = ap (ended b r) (omega arith)
-
--- and up to the end all of them
-pub up-to-end : (b : Sums) (r : Moving) (i l : ℕ) → l ≤ i → ended b r (min (i + 1) l) ≡ ended b r l
-up-to-end b r i l h = ap (ended b r) (omega arith)
-
 -- a sample whose envelope is in the band counts where each counter stands
 counted-on : (by : Counting) (low high Q : ℕ) (b : Sums) (r : Moving) (since a h : List ℕ) (xs : List ℤ) (i : ℕ) → i < length xs → low ≤ r .q → r .q < high → low ≤ Q → Q < high → Clear threshold low high
     → ((j : ℕ) → getD since j 0 ≤ i)
@@ -103,12 +95,12 @@ room-for-one {xs = xs} {r = r} {i = i} g l = room-less 1 (length xs - i) r (omeg
 module _ (by : Counting) (low high : ℕ) (m : Moving) (xs : List ℤ) (at : ℕ) (k : by .k ≤ smoothing) (r s : Moving) (i : ℕ) (g : Going by low high m xs at r i)
     (l : i < length xs) (f : SFits w16 (getD xs i (pos 0))) (e : s ≡ moved (by .k) r (getD xs i (pos 0))) where
   kept : Room (length xs - (i + 1)) s
-  kept = subst (Room (length xs - (i + 1))) (sym e) (room-kept (by .k) (length xs - (i + 1)) r (getD xs i (pos 0)) k f (room-less _ _ r (omega arith) (g .room)))
+  kept = room-after (by .k) r s _ i (length xs) l k f e (g .room)
 
   stepped : (b : Sums) (Q : ℕ) (since a h : List ℕ) → stateAfter by (standingAt by b r Q i since a h) (drop i xs) ≡ ledBy by b s Q i since a h xs
   stepped b Q since a h =
       step-is by (ended b r i) (ended b s (min (i + 1) (length xs))) (countsBy threshold thresholds (by .i) Q i since a h) (hangoversBy threshold thresholds (by .i) Q i since h) xs i l
-      (up-to b s i (length xs) l ∙ ap (λ (t : Moving). ended b t (i + 1)) e ∙ ended-more (by .k) b r i (getD xs i (pos 0)))
+      (ended-at (by .k) b r s _ i (length xs) l e)
 
   -- it may end the run
   pub gone-out : Ran by low high m xs at s i

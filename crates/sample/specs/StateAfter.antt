@@ -1,4 +1,4 @@
--- The border of `State::after`: what it asks for of a state, of what counting goes by, and of how many samples are new. Refusals 2, 10 and 11 give it.
+-- The border of `State::after`: what it asks for of a state, of what counting goes by, and of how many samples are new. Refusals 2, 3, 8 and 11 give it.
 use Prim.Native.Nat.{ℕ, _+_, _*_, _^_, _≤_, _<_}
 use lib.IntN.{natAbs}
 use lib.ListN.{getD}
@@ -9,7 +9,7 @@ use Rattle.sample.specs.declared.State.{State}
 use Rattle.sample.specs.Envelope.{smoothing}
 use Rattle.sample.specs.Sample.{mostSamples}
 
--- sums that another sample can be added to
+-- sums within their bounds
 pub record BoundedSums (m : Sums) : Type 0 where
   pub n-max : m .n .0 ≤ mostSamples
   pub s-max : natAbs (m .s) ≤ m .n .0 * 2 ^ 15
