@@ -2,8 +2,7 @@
 // rounds of two, a chunk's length of two (0 stands for 4096), and then at most 32768 samples, two bytes
 // each: a meter opened at that code takes the samples so many times over, in chunks of that length, and
 // its values are printed.
-ghost use mathlib.Core.Path.{_≡_};
-ghost use Prim.Native.Nat.{_<_, min};
+ghost use Prim.Native.Nat.{_<_};
 use input::Streams;
 use meter::Meter;
 use setting::Setting;
@@ -31,7 +30,7 @@ fn measured(held: &[u8]) -> Meter {
     }
     let part = &held[5..];
     block::decode(part, &mut samples);
-    let count = least(part.len() / 2, 32768);
+    let count = block::least(part.len() / 2, 32768);
     repeated(
         fresh.meter,
         block::two_bytes(held, 1),
@@ -75,10 +74,4 @@ fn once(meter: Meter, chunk: usize, samples: &[i16]) -> Meter
         from += chunk;
     }
     meter.chunk(&samples[from..]).meter
-}
-
-fn least(a: usize, b: usize) -> usize
-    ensures { λ r. ⌜ r ≡ min a b ⌝ }
-{
-    if a < b { a } else { b }
 }

@@ -19,6 +19,7 @@ pub use reading::two_bytes;
 use refusal::Answer;
 use refusal::Refusal;
 pub use samples::decode;
+pub use samples::least;
 
 // The bytes of a sound block's samples; of any other block, none.
 pub fn samples_part(block: &[u8]) -> &[u8]

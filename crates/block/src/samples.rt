@@ -17,7 +17,8 @@ pub fn decode(bytes: &[u8], samples: &mut [i16])
     }
 }
 
-fn least(a: usize, b: usize) -> usize
+// The smaller of two lengths.
+pub fn least(a: usize, b: usize) -> usize
     ensures { λ r. ⌜ r ≡ min a b ⌝ }
 {
     if a < b { a } else { b }

@@ -47,7 +47,7 @@ impl Source {
     pub fn used(self, n: usize) -> Source {
         let coming = self.coming;
         Source {
-            at: self.at + least(n, self.unused()),
+            at: self.at + block::least(n, self.unused()),
             end: self.end,
             read: self.read,
             coming,
@@ -83,15 +83,9 @@ impl Source {
 
 // The bytes that are read and not yet used, at most so many.
 pub fn ahead(buffer: &[u8], source: Source, n: usize) -> &[u8] {
-    let at = least(source.at, buffer.len());
-    let end = at + least(least(n, source.unused()), buffer.len() - at);
+    let at = block::least(source.at, buffer.len());
+    let end = at + block::least(block::least(n, source.unused()), buffer.len() - at);
     &buffer[at..end]
-}
-
-pub fn least(a: usize, b: usize) -> usize
-    ensures { λ r. ⌜ (r ≤ a) × (r ≤ b) ⌝ }
-{
-    if a < b { a } else { b }
 }
 
 // Moves so many bytes of a buffer from a place to its front, as far as they go, and answers with how many.
@@ -101,7 +95,7 @@ fn moved(buffer: &mut [u8], from: usize, n: usize) -> usize
     if buffer.len() <= from {
         return 0;
     }
-    let count = least(n, buffer.len() - from);
+    let count = block::least(n, buffer.len() - from);
     let mut i = 0;
     while i < count {
         buffer[i] = buffer[from + i];

@@ -1,25 +1,18 @@
 // Text in a lent buffer of which some bytes are used: each function puts its text behind them, as far as
 // there is room, and answers with how many bytes are used then.
-ghost use Prim.Native.Nat.{_≤_};
 use level::THRESHOLDS;
 
 pub fn words(line: &mut [u8], used: usize, text: &[u8]) -> usize {
     if line.len() <= used {
         return used;
     }
-    let n = least(text.len(), line.len() - used);
+    let n = block::least(text.len(), line.len() - used);
     let mut i = 0;
     while i < n {
         line[used + i] = text[i];
         i += 1;
     }
     used + n
-}
-
-fn least(a: usize, b: usize) -> usize
-    ensures { λ r. ⌜ (r ≤ a) × (r ≤ b) ⌝ }
-{
-    if a < b { a } else { b }
 }
 
 pub fn unsigned(line: &mut [u8], used: usize, x: u64) -> usize {

@@ -57,14 +57,8 @@ fn after(record: &[u8], at: usize) -> &[u8] {
 fn chunk(record: &[u8], meter: Meter, samples: &mut [i16], line: &mut [u8]) -> Answer {
     let part = after(record, 3);
     block::decode(part, samples);
-    let n = least(part.len() / 2, samples.len());
+    let n = block::least(part.len() / 2, samples.len());
     told(line, b"chunk", meter.chunk(&samples[0..n]))
-}
-
-fn least(a: usize, b: usize) -> usize
-    ensures { λ r. ⌜ (r ≤ a) × (r ≤ b) ⌝ }
-{
-    if a < b { a } else { b }
 }
 
 // 4: a report.

@@ -1,5 +1,4 @@
 // Records as bytes: how long they are, and how much of one is kept.
-ghost use Prim.Native.Nat.{_≤_};
 use crate::Going;
 use input::Streams;
 
@@ -64,9 +63,9 @@ fn length(record: &[u8]) -> usize {
 fn kept(record: &[u8]) -> usize {
     let whole = length(record);
     match block::one_byte(record, 0) {
-        2 => least(whole, 8197),
-        3 => least(whole, 516),
-        8 => least(whole, 517),
+        2 => block::least(whole, 8197),
+        3 => block::least(whole, 516),
+        8 => block::least(whole, 517),
         _ => whole,
     }
 }
@@ -74,13 +73,7 @@ fn kept(record: &[u8]) -> usize {
 // How many bytes come after those that are kept.
 pub fn rest(record: &[u8]) -> usize {
     let whole = length(record);
-    whole - least(whole, kept(record))
-}
-
-fn least(a: usize, b: usize) -> usize
-    ensures { λ r. ⌜ r ≤ a ⌝ }
-{
-    if a < b { a } else { b }
+    whole - block::least(whole, kept(record))
 }
 
 // Whether the record ahead can be played.
