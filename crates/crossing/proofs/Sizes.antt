@@ -1,4 +1,4 @@
--- How large levels are, from the logarithm's facts alone; sums and differences of small steps; what an answer of the logarithm tells.
+-- How large levels are, from the logarithm's facts alone; sums and differences of small steps.
 use mathlib.Core.List.{List}
 use mathlib.Core.Path.{_≡_, refl, sym, ap, ap₂, _∙_, subst}
 use Prim.Native.Nat.{ℕ, zero, suc, _+_, _*_, _-_, _^_, _≤_, _<_}
@@ -13,17 +13,15 @@ use mir.Syntax.{w64}
 use mir.Val.{SFits, toZ, ofZ}
 use mir.Facts.{toZ-ofZ}
 use Rattle.signed.proofs.Sizes.{fits}
-use Rattle.level.specs.Logarithm.{lev, levelOf, valueOf}
+use Rattle.level.specs.Logarithm.{lev}
 use Rattle.level.specs.Types.{activity, stepsOf, thresholds}
-use Rattle.level.specs.declared.Level.{Level}
-use Rattle.level.specs.declared.Level.the-variants.{At, None}
 use Rattle.level.specs.declared.Samples.{Samples}
 use Rattle.level.specs.declared.Steps.{Steps}
-use Rattle.level.proofs.Laws.{facts, pow-lt-cancel, level-read, level-some}
+use Rattle.level.proofs.Laws.{facts, pow-lt-cancel}
 use Rattle.level.proofs.Powers.{pow-mul}
 use Rattle.crossing.specs.Crossing.{isZero}
 use Rattle.crossing.specs.Inner.FindLevels.{Falling}
-use Rattle.crossing.specs.Inner.Steps.{TwoSmall, stepsIn}
+use Rattle.crossing.specs.Inner.Steps.{TwoSmall}
 
 -- 2^l ≤ n^x and n ≤ 2^b give l ≤ b·x
 exponent : (l n b x : ℕ) → 2 ^ l ≤ n ^ x → n ≤ 2 ^ b → l < suc (b * x)
@@ -34,11 +32,6 @@ exponent l n b x h u =
 
 pub lev-max : (n : ℕ) → 1 ≤ n → n ≤ 2 ^ 80 → lev n < 2 ^ 19
 lev-max n h u = omega (arith, exponent (lev n) n 80 4096 (facts .at-most n h u) u)
-
--- an answer for a number in range holds its level
-pub level-known : (n : ℕ) (r : Level) → 1 ≤ n → n ≤ 2 ^ 80 → valueOf r ≡ levelOf n → stepsIn r ≡ pos (lev n)
-level-known n (At s) h u e = level-read n (At s) s h u e refl
-level-known n None h u e = absurd (level-some n None h u e refl)
 
 -- counts that fall: each is at most the one before, and the first
 pub falls : (a : List Samples) → Falling a → (j : ℕ) → j < thresholds → 1 ≤ j → activity a j ≤ activity a (j - 1)
@@ -55,10 +48,7 @@ few a f (suc j) l =
 pub held : {r : Steps} {x : ℤ} → r ≡ stepsOf x → r .0 ≡ x
 held e = ap (λ (s : Steps). s .0) e
 
--- a word that holds x, and the test of it against 0
-pub word : {v x : ℤ} → mag v < 2 ^ 63 → v ≡ x → toZ w64 (ofZ w64 v) ≡ x
-word h e = toZ-ofZ (record { sfits = h }) ∙ e
-
+-- the test of a word against 0
 pub zero-test : (z : ℤ) → mag z < 2 ^ 63 → eqb (ofZ w64 z) 0 ≡ isZero z
 zero-test (pos n) h = refl
 zero-test (negsuc n) h = ne-eqb (ofZ w64 (negsuc n)) 0 (λ (e : ofZ w64 (negsuc n) ≡ 0). omega (arith, e))

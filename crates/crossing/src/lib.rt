@@ -37,7 +37,7 @@ pub fn find_levels(n: Samples, sq: Squares, a: [Samples; THRESHOLDS], margin: St
     requires { ⌜ Measured (margin .0) (n .0) (twoWords sq) a ⌝ }
     ensures { λ r. ⌜ said r ≡ searched (margin .0) (n .0) (twoWords sq) a ⌝ }
 {
-    let power = steps::known(sq.level());
+    let power = sq.level().steps();
     match lowest::crossing(power, a, margin) {
         Place::At(j) => {
             let level = steps::over(power, n);

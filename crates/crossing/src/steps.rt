@@ -3,23 +3,12 @@ ghost use mathlib.Core.Path.{_≡_};
 ghost use lib.IntN.{pos, natAbs, _+ℤ_, _-ℤ_};
 ghost use lib.Signed.{ltZ};
 ghost use Rattle.crossing.specs.Crossing.{isZero};
-ghost use Rattle.crossing.specs.Inner.Steps.{TwoSmall, OverCount, Placed, IsLevel, IsExcess, stepsIn};
-use level::Level;
+ghost use Rattle.crossing.specs.Inner.Steps.{TwoSmall, OverCount, Placed, IsLevel, IsExcess};
 use level::Samples;
 use level::Steps;
 
 // C_(j+1) − C_j
 const STEPS_A_THRESHOLD: usize = 8192;
-
-// The steps of a level, 0 where there is none.
-pub(crate) fn known(level: Level) -> Steps
-    ensures { λ r. ⌜ r .0 ≡ stepsIn level ⌝ }
-{
-    match level {
-        Level::At(steps) => steps,
-        Level::None => Steps::of(0),
-    }
-}
 
 pub(crate) fn minus(x: Steps, y: Steps) -> Steps
     requires { ⌜ TwoSmall (x .0) (y .0) ⌝ }
@@ -40,7 +29,7 @@ pub(crate) fn over(power: Steps, count: Samples) -> Steps
     requires { ⌜ OverCount (power .0) (count .0) ⌝ }
     ensures { λ r. ⌜ IsLevel (power .0) (count .0) (r .0) ⌝ }
 {
-    minus(power, known(count.level()))
+    minus(power, count.level().steps())
 }
 
 // d_j = A_j − C_j − M, for a count a_j above 0

@@ -11,7 +11,7 @@ use borrow.Author.Tests.{leb-true, leb-false, le-leb}
 use lib.Dec.{leb}
 use lib.IntN.{pos}
 use lib.Pow.{pow-add, pow-pos, pow-mono, shr-mono}
-use Rattle.level.specs.Logarithm.{placeUpTo, place, spell, start, lev, levelOf, valueOf, Facts}
+use Rattle.level.specs.Logarithm.{placeUpTo, place, spell, start, lev, levelOf, valueOf, stepsIn, Facts}
 use Rattle.level.specs.declared.Level.{Level}
 use Rattle.level.specs.declared.Level.the-variants.{At, None}
 use Rattle.level.specs.declared.Steps.{Steps}
@@ -175,3 +175,14 @@ level-some n r h u e f =
     let q : none ≡ some (pos (lev n)) = sym (ap valueOf f) ∙ e ∙ level-exists n h u in
     let z : _≡_ {A = ℕ} 0 1 = cc in
     omega arith
+
+-- an answer for a number in range holds its level
+pub level-known : (n : ℕ) (r : Level) → 1 ≤ n → n ≤ 2 ^ 80 → valueOf r ≡ levelOf n → stepsIn r ≡ pos (lev n)
+level-known n (At s) h u e = level-read n (At s) s h u e refl
+level-known n None h u e = absurd (level-some n None h u e refl)
+
+-- and one for any other number holds 0
+pub level-unknown : (n : ℕ) (r : Level) → levelOf n ≡ none → valueOf r ≡ levelOf n → stepsIn r ≡ pos 0
+unfolding valueOf
+level-unknown n (At s) f e = let q : some (s .0) ≡ none = e ∙ f in let z : _≡_ {A = ℕ} 0 1 = cc in absurd (omega arith)
+level-unknown n None f e = refl

@@ -45,6 +45,11 @@ unfoldable pub valueOf : Level → Option ℤ
 valueOf (At s) = some (s .0)
 valueOf None = none
 
+-- the steps of an answer, 0 where there is no level
+abbrev pub stepsIn : Level → ℤ
+stepsIn (At s) = s .0
+stepsIn None = pos 0
+
 -- the three facts that the meter rests on
 pub record Facts (lev : ℕ → ℕ) : Type 0 where
   pub never-falls : (m n : ℕ) → 1 ≤ m → m ≤ n → n ≤ 2 ^ 80 → lev m ≤ lev n

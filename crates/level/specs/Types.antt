@@ -1,15 +1,19 @@
--- Counts of samples, levels in steps, and sums of squares in two words.
+-- Counts of samples, hundredths of a percent, levels in steps, and sums of squares in two words.
 use mathlib.Core.List.{List}
 use Prim.Native.Nat.{ℕ, _+_, _*_, _/_, _%_, _^_}
 use lib.IntN.{ℤ}
 use lib.ListN.{getD}
+use Rattle.level.specs.declared.Hundredths.{Hundredths}
 use Rattle.level.specs.declared.Samples.{Samples}
 use Rattle.level.specs.declared.Squares.{Squares}
 use Rattle.level.specs.declared.Steps.{Steps}
 
--- a number as a count of samples, and as a level or a difference of two
+-- a number as a count of samples, as hundredths of a percent, and as a level or a difference of two
 abbrev pub samplesOf : ℕ → Samples
 samplesOf n = record { 0 = n }
+
+abbrev pub hundredthsOf : ℕ → Hundredths
+hundredthsOf n = record { 0 = n }
 
 abbrev pub stepsOf : ℤ → Steps
 stepsOf x = record { 0 = x }

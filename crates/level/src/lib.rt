@@ -1,12 +1,13 @@
 // The level logarithm (METHOD.md, "The level logarithm"), and the types that keep counts of
-// samples and levels in steps apart: only the logarithm leads from the one to the other.
+// samples, hundredths of a percent and levels in steps apart: only the logarithm leads from the first
+// two to the third.
 mod sums;
 
 ghost use mathlib.Core.Path.{_≡_};
 ghost use Prim.Native.Nat.{_+_, _*_, _^_, _≤_, _<_};
 ghost use lib.Dec.{ltb};
-ghost use Rattle.level.specs.Logarithm.{placeUpTo, spell, lev, levelOf, valueOf};
-ghost use Rattle.level.specs.Types.{samplesOf, stepsOf, twoWords};
+ghost use Rattle.level.specs.Logarithm.{placeUpTo, spell, lev, levelOf, valueOf, stepsIn};
+ghost use Rattle.level.specs.Types.{samplesOf, hundredthsOf, stepsOf, twoWords};
 
 // How many thresholds there are.
 pub const THRESHOLDS: usize = 15;
@@ -16,6 +17,9 @@ pub struct Steps(i64);
 
 // A count of samples.
 pub struct Samples(u64);
+
+// A part of the whole, in hundredths of a percent.
+pub struct Hundredths(u64);
 
 // A sum of squares, in two words.
 pub struct Squares {
@@ -40,6 +44,18 @@ impl Steps {
         ensures { λ r. ⌜ r ≡ self .0 ⌝ }
     {
         self.0
+    }
+}
+
+impl Level {
+    // The steps of a level, 0 where there is none.
+    pub fn steps(self) -> Steps
+        ensures { λ r. ⌜ r .0 ≡ stepsIn self ⌝ }
+    {
+        match self {
+            Level::At(steps) => steps,
+            Level::None => Steps(0),
+        }
     }
 }
 
@@ -71,8 +87,36 @@ impl Samples {
     pub fn level(self) -> Level
         ensures { λ r. ⌜ valueOf r ≡ levelOf (self .0) ⌝ }
     {
-        lev(0, self.0)
+        word_level(self.0)
     }
+}
+
+impl Hundredths {
+    pub fn of(n: u64) -> Hundredths
+        ensures { λ r. ⌜ r ≡ hundredthsOf n ⌝ }
+    {
+        Hundredths(n)
+    }
+
+    pub fn number(self) -> u64
+        ensures { λ r. ⌜ r ≡ self .0 ⌝ }
+    {
+        self.0
+    }
+
+    // The level of their number.
+    pub fn level(self) -> Level
+        ensures { λ r. ⌜ valueOf r ≡ levelOf (self .0) ⌝ }
+    {
+        word_level(self.0)
+    }
+}
+
+// The level of a word.
+fn word_level(n: u64) -> Level
+    ensures { λ r. ⌜ valueOf r ≡ levelOf n ⌝ }
+{
+    lev(0, n)
 }
 
 // The level of the number high * 2^64 + low.

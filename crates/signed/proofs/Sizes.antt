@@ -1,13 +1,14 @@
--- How large sums and differences of signed numbers are, and when one fits 64 bits.
+-- How large sums and differences of signed numbers are, when one fits 64 bits, and what a word that holds one says.
 use mathlib.Core.Bool.{Bool, true, false, cond}
-use mathlib.Core.Path.{_≡_, refl}
+use mathlib.Core.Path.{_≡_, refl, _∙_}
 use Prim.Native.Nat.{ℕ, zero, suc, _+_, _-_, _^_, _≤_, _<_}
 use native.Mathlib.Omega.{arith}
 use lib.Dec.{ltb}
 use lib.IntN.{ℤ, pos, negsuc, negℤ, natAbs, _+ℤ_, _-ℤ_}
 use lib.Signed.{mag}
 use mir.Syntax.{w64}
-use mir.Val.{SFits}
+use mir.Val.{SFits, toZ, ofZ}
+use mir.Facts.{toZ-ofZ}
 
 sub-mag : (b : Bool) (x y : ℕ) → mag (cond b (negsuc (suc y - suc x)) (pos (x - suc y))) ≤ x + y
 sub-mag true x y = omega arith
@@ -40,3 +41,7 @@ abs-minus a b = omega (arith, abs-sum a (negℤ b), abs-neg b)
 pub fits : (x : ℤ) → natAbs x < 2 ^ 63 → SFits w64 x
 fits (pos n) h = record { sfits = h }
 fits (negsuc n) h = record { sfits = omega arith }
+
+-- a word that holds x
+pub word : {v x : ℤ} → mag v < 2 ^ 63 → v ≡ x → toZ w64 (ofZ w64 v) ≡ x
+word h e = toZ-ofZ (record { sfits = h }) ∙ e

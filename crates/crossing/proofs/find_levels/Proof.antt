@@ -11,6 +11,7 @@ use lib.Signed.{ltZ}
 use Rattle.level.specs.Logarithm.{lev}
 use Rattle.level.specs.Types.{stepsOf, twoWords, thresholds}
 use Rattle.level.specs.declared.Samples.{Samples}
+use Rattle.level.proofs.Laws.{level-known}
 use Rattle.crossing.specs.declared.Levels.{Levels}
 use Rattle.crossing.specs.declared.Found.{Found}
 use Rattle.crossing.specs.declared.Found.the-variants.{At, Below, Above}
@@ -20,7 +21,7 @@ use Rattle.crossing.specs.Inner.Search.{Searchable, placeOf}
 use Rattle.crossing.specs.Levels.{longTerm, activeAt, excess}
 use Rattle.crossing.specs.Searched.{said, searched, levelsFor, levelsAt, crossingIn, firstExcess}
 use Rattle.crossing.proofs.Searching.{found}
-use Rattle.crossing.proofs.Sizes.{lev-max, level-known}
+use Rattle.crossing.proofs.Sizes.{lev-max}
 use Rattle.crossing.proofs.find_levels.Statement.{statement}
 use Rattle.crossing.proofs.find_levels.Tie as tie
 
@@ -53,10 +54,10 @@ module _ (M : ℤ) (n sq : ℕ) (a : List Samples) where
 
 -- ---- as the code meets them
 
-power-is : (c : tie.After-known) → c .known .result .0 ≡ pos (lev (twoWords (c .before .before .args .sq)))
-power-is c = let m = c .before .before .pre in c .known .ensures ∙ level-known _ _ (m .sq-pos) (m .sq-max) (c .before .level .ensures)
+power-is : (c : tie.After-steps) → c .steps .result .0 ≡ pos (lev (twoWords (c .before .before .args .sq)))
+power-is c = let m = c .before .before .pre in c .steps .ensures ∙ level-known _ _ (m .sq-pos) (m .sq-max) (c .before .level .ensures)
 
-searchable : (c : tie.After-known) → let s = c .before .before .args in Searchable (s .margin .0) (c .known .result .0) (s .t3)
+searchable : (c : tie.After-steps) → let s = c .before .before .args in Searchable (s .margin .0) (c .steps .result .0) (s .t3)
 searchable c =
     let m = c .before .before .pre in
     record { margin = m .margin; power = omega (arith, ap natAbs (power-is c), lev-max _ (m .sq-pos) (m .sq-max)); counts = m .counts }
@@ -72,10 +73,10 @@ crossing-is c =
     ap (λ (z : ℤ). crossing (s .margin .0) z (s .t3)) (sym (power-is (c .before))) ∙ sym (c .crossing .ensures)
 
 -- a crossing found at j
-abbrev start : tie.After-j → tie.After-known
+abbrev start : tie.After-j → tie.After-steps
 start c = c .before .before .before
 
-at : (c : tie.After-j) → let s = start c .before .before .args in AtCrossing (s .margin .0) (start c .known .result .0) (s .t3) (c .j .given .0 .0)
+at : (c : tie.After-j) → let s = start c .before .before .args in AtCrossing (s .margin .0) (start c .steps .result .0) (s .t3) (c .j .given .0 .0)
 unfolding placeOf crossing
 at c =
     let f = found _ 0 thresholds _ (sym (c .before .before .crossing .ensures) ∙ ap placeOf (c .j .given .1)) in

@@ -4,8 +4,6 @@ use Prim.Native.Nat.{ℕ, _^_, _≤_, _<_}
 use lib.IntN.{ℤ, pos, natAbs, _-ℤ_}
 use Rattle.level.specs.Logarithm.{lev}
 use Rattle.level.specs.Types.{thresholds}
-use Rattle.level.specs.declared.Level.{Level}
-use Rattle.level.specs.declared.Level.the-variants.{At, None}
 use Rattle.crossing.specs.Levels.{levelOfThreshold}
 
 -- steps of at most 2^k, either way
@@ -25,11 +23,6 @@ pub record TwoSmall (x y : ℤ) : Type 0 where
 pub record Sized (k : ℕ) (x r : ℤ) : Type 0 where
   pub is : r ≡ x
   pub size : Within k r
-
--- the steps of an answer of the logarithm, 0 where there is no level
-abbrev pub stepsIn : Level → ℤ
-stepsIn (At s) = s .0
-stepsIn None = pos 0
 
 -- what a level over a count is asked, and that r is it
 pub record OverCount (S : ℤ) (n : ℕ) : Type 0 where

@@ -2,7 +2,7 @@
 use borrow.Author.Needs.{needs}
 use mathlib.Core.Path.{ap, _∙_}
 use lib.IntN.{natAbs}
-use Rattle.crossing.proofs.Sizes.{word}
+use Rattle.signed.proofs.Sizes.{word}
 use Rattle.crossing.proofs.steps.size.Statement.{statement}
 use Rattle.crossing.proofs.steps.size.Tie as tie
 
