@@ -1,8 +1,10 @@
 //! Demand 3's "a report on that meter is the scope's report": clauses on a meter and an answer.
 //!
 //! No crossing is searched for: a report tells the place of its own, which is its upper threshold.
+//! Nor is T searched for: the T that a report tells is tried against what marks the right one.
 
 use crate::meter::{Meter, Report};
+use crate::percent::{difference, WHOLE};
 
 /// A clause in words, and whether it holds.
 pub type Clause = (&'static str, bool);
@@ -41,7 +43,7 @@ fn fields(meter: &Meter, report: &Report) -> Vec<Clause> {
     let Some(expected) = meter.report_at(j) else {
         return vec![(at_j, false)];
     };
-    vec![
+    let at_crossing = [
         (at_j, true),
         ("the crossing that is used", meter.uses_crossing(j)),
         ("the report's n", report.n == meter.n),
@@ -53,5 +55,18 @@ fn fields(meter: &Meter, report: &Report) -> Vec<Clause> {
         ("C at the crossing", report.C == expected.C),
         ("F at the crossing", report.F == expected.F),
         ("the lower threshold", report.lower == expected.lower),
+    ];
+    [&at_crossing[..], &percentage(report.T, expected.F)].concat()
+}
+
+/// T is from 0 to 10000; where it is above 0, its difference is not above F; any larger one up to
+/// 10000 has a difference above F (the customer's request L1).
+fn percentage(T: u64, F: i64) -> [Clause; 3] {
+    let not_above = |T| difference(T).is_some_and(|difference| difference <= F);
+    let none_larger = (1..=WHOLE).all(|larger| larger <= T || !not_above(larger));
+    [
+        ("T from 0 to 10000", T <= WHOLE),
+        ("T is 0 or not above F", T == 0 || not_above(T)),
+        ("no larger T", none_larger),
     ]
 }

@@ -144,7 +144,7 @@ impl Case {
         let factor = Reading {
             name: "activity factor",
             unit: "%",
-            measured: 100.0 * 10f64.powf(levels.factor / 10.0),
+            measured: levels.percent,
             figure: figures.activity_factor,
         };
         let active = self.level("active level", levels.active, figures.active);

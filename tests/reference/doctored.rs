@@ -1,5 +1,7 @@
-//! Wrong answers to lists of calls, to see that the check of demand 3 refuses each of them.
+//! Wrong answers to lists of calls and on meters handed in, to see that the check of demand 3
+//! refuses each of them.
 
+use crate::answer;
 use crate::compare::agrees;
 use crate::measurement;
 use crate::meter::{Meter, Report};
@@ -54,6 +56,8 @@ fn hum_and_shout() -> Vec<i16> {
 pub fn doctored(tally: &mut Tally) {
     numbers(tally);
     reports(tally);
+    percentages(tally);
+    percentages_at_ends(tally);
     lines(tally);
     totals(tally);
 }
@@ -109,11 +113,67 @@ fn reports(tally: &mut Tally) {
     }
 }
 
+/// Reports whose T is off: one less and one more, none, the least that F allows, past the whole.
+fn percentages(tally: &mut Tally) {
+    let list = List::new(&hum_and_shout());
+    let right = list.meter.report().expect("a crossing");
+    let rows = [
+        (right.T - 1, &["no larger T"][..]),
+        (right.T + 1, &["T is 0 or not above F"]),
+        (0, &["no larger T"]),
+        (1, &["no larger T"]),
+        (10001, &["T from 0 to 10000", "T is 0 or not above F"]),
+    ];
+    for (T, clauses) in rows {
+        let report = Report { T, ..right.clone() };
+        list.breaks(tally, &report_line(&Ok(report)), clauses);
+    }
+}
+
+/// A meter with `a` of its n samples active at every threshold, and a crossing.
+///
+/// A_j is the same for every j, so that F is lev(a) - lev(n).
+fn active(n: u64, a: u64) -> Meter {
+    Meter {
+        n,
+        sq: 64 * u128::from(a),
+        a: [a; 15],
+        ..Meter::open(2).0
+    }
+}
+
+/// Right and wrong T at the ends of the range, where `a` of n samples are active, with the clauses
+/// that the wrong ones break.
+fn percentages_at_ends(tally: &mut Tally) {
+    let rows = [
+        (10001, 1, -54427, 0, &[][..]),
+        (10001, 1, -54427, 1, &["T is 0 or not above F"]),
+        (10000, 1, -54426, 0, &["no larger T"]),
+        (10000, 1, -54426, 1, &[]),
+        (10000, 1, -54426, 2, &["T is 0 or not above F"]),
+        (10000, 9999, -1, 9998, &["no larger T"]),
+        (10000, 9999, -1, 9999, &[]),
+        (10000, 9999, -1, 10000, &["T is 0 or not above F"]),
+        (10000, 10000, 0, 9999, &["no larger T"]),
+        (10000, 10000, 0, 10000, &[]),
+    ];
+    for (n, a, F, T, clauses) in rows {
+        let meter = active(n, a);
+        let right = meter.report().expect("a crossing");
+        tally.equal(&format!("{a} of {n} samples active, F"), right.F, F);
+        let all = answer::clauses(&meter, &Ok(Report { T, ..right }));
+        let broken = all.into_iter().filter(|&(_, holds)| !holds);
+        let broken: Vec<&str> = broken.map(|(clause, _)| clause).collect();
+        tally.equal(&format!("F {F}, T {T}"), &broken[..], clauses);
+    }
+}
+
 /// Lines with more than a refusal on them, and with less or more than a whole report.
 fn lines(tally: &mut Tally) {
     let list = List::new(&hum_and_shout());
     let whole = report_line(&list.meter.report());
-    let (less, more) = (&whole[..whole.len() - 2], format!("{whole} 0"));
+    let (less, _) = whole.rsplit_once(' ').expect("more than a word");
+    let more = format!("{whole} 0");
     for line in ["report", "report 0", "report 12 0", less, &more] {
         list.breaks(tally, line, &["a report or a refusal"]);
     }

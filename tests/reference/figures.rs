@@ -4,6 +4,7 @@ use crate::block;
 use crate::doctored::doctored;
 use crate::level::lev;
 use crate::meter::{Meter, Report};
+use crate::percent;
 use crate::rate::RATES;
 use crate::report::report;
 use crate::tally::Tally;
@@ -19,6 +20,9 @@ pub fn figures() -> bool {
     program(&mut tally);
     exact_threshold(&mut tally);
     further_reports(&mut tally);
+    percentages(&mut tally);
+    percentage_never_falls(&mut tally);
+    percentage_is_near(&mut tally);
     doctored(&mut tally);
     tally.finish()
 }
@@ -87,18 +91,18 @@ fn handed_in(n: u64, sq: u128, a: &[u64]) -> Meter {
     meter
 }
 
-/// The rows of reports (the customer's scope, "Worked figures").
+/// The rows of reports (the customer's scope, "Worked figures"), with their T.
 fn reports(tally: &mut Tally) {
     let full = handed_in(16384, 1 << 30, &[4096; 8]);
     let mut half = full.clone();
     half.a[7] = 2048;
     let zero = handed_in(32768, 1275068, &[32768]);
     let rows = [
-        ("a_7 4096", full, [65536, 73728, 52093, -8192], 6, 7),
-        ("a_7 2048", half, [65536, 76669, 55034, -11133], 6, 7),
-        ("d_0 zero", zero, [21635, 21635, 0, 0], 0, 0),
+        ("a_7 4096", full, [65536, 73728, 52093, -8192], 6, 7, 2500),
+        ("a_7 2048", half, [65536, 76669, 55034, -11133], 6, 7, 1519),
+        ("d_0 zero", zero, [21635, 21635, 0, 0], 0, 0, 10000),
     ];
-    for (name, meter, [L, A, C, F], lower, upper) in rows {
+    for (name, meter, [L, A, C, F], lower, upper, T) in rows {
         let report = Report {
             n: meter.n,
             s: meter.s,
@@ -110,6 +114,7 @@ fn reports(tally: &mut Tally) {
             F,
             lower,
             upper,
+            T,
         };
         tally.equal(name, meter.report(), Ok(report));
     }
@@ -128,13 +133,18 @@ fn bounds(tally: &mut Tally) {
     tally.equal("chunk of 4097", fresh.chunk(&[0; 4097]).1, 3);
 }
 
-/// The example of the report program (the customer's scope, "Worked figures"), and inputs at the edges.
+/// The example of the report program (the customer's scope, "Worked figures"), inputs at the edges,
+/// and a level with its percentage (the customer's request L1).
 fn program(tally: &mut Tally) {
     let example = "samples 1\nsum 32767\nsquares 0 1073676289\n\
                    counts 1 1 1 1 1 1 1 0 0 0 0 0 0 0 0\nrefused 16\n";
     let nothing = "samples 0\nsum 0\nsquares 0 0\n\
                    counts 0 0 0 0 0 0 0 0 0 0 0 0 0 0 0\nrefused 12\n";
+    let level = "samples 248\nsum 24800\nsquares 0 2480000\n\
+                 counts 246 245 242 239 234 225 204 0 0 0 0 0 0 0 0\n\
+                 level 54426 54779 33144 -353\npercent 9420\n";
     let block = block::make(1, 0, &[32767]);
+    let steady = block::make(1, 0, &[100; 248]);
     let twice = [&block[..], &block].concat();
     let rows = [
         ("example", &block[..], "", example),
@@ -152,6 +162,7 @@ fn program(tally: &mut Tally) {
             "block 2 refused 4\n",
             example,
         ),
+        ("a level", &steady, "", level),
     ];
     for (name, input, refused, measurement) in rows {
         tally.equal(name, report(input), [refused, measurement].concat());
@@ -183,4 +194,41 @@ fn further_reports(tally: &mut Tally) {
         .report()
         .map(|report| report.A);
     tally.equal("a_7 3000", found, Ok(74580));
+}
+
+/// The figures of the percentage (the customer's request L1), more of them at its ends, and F far
+/// beyond any report's.
+fn percentages(tally: &mut Tally) {
+    let rows = [
+        (i64::MIN, 0),
+        (-54427, 0),
+        (-54426, 1),
+        (-8192, 2500),
+        (-4096, 5000),
+        (-1, 9999),
+        (0, 10000),
+        (i64::MAX, 10000),
+    ];
+    for (F, T) in rows {
+        tally.equal(&format!("T of F {F}"), percent::T(F), T);
+    }
+}
+
+/// A larger F never shows a smaller percentage (the customer's request L1): every F where T
+/// changes, a few more at either end, and some far away.
+fn percentage_never_falls(tally: &mut Tally) {
+    let far = [i64::MIN, i64::MIN + 1, -(1 << 32), -196608, -65536];
+    let beyond = [54426, 65536, 1 << 32, i64::MAX - 1, i64::MAX];
+    let factors = far.into_iter().chain(-54430..=2).chain(beyond);
+    let shown: Vec<u64> = factors.map(percent::T).collect();
+    let never_falls = shown.windows(2).all(|pair| pair[0] <= pair[1]);
+    tally.holds("T never falls as F grows", never_falls);
+}
+
+/// For every F that has a T above 0, and a few below, T is less than one hundredth away from the
+/// share of the whole that F stands for.
+fn percentage_is_near(tally: &mut Tally) {
+    let share = |F: i64| 10000.0 * 2f64.powf(F as f64 / 4096.0);
+    let near = (-54430..=0).all(|F| (percent::T(F) as f64 - share(F)).abs() < 1.0);
+    tally.holds("T less than one hundredth from 2^(F/4096)", near);
 }

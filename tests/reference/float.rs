@@ -79,9 +79,11 @@ pub fn measure(rate: &Rate, samples: &[i16]) -> Option<Levels> {
     let sq: f64 = samples.iter().map(|&x| f64::from(x) * f64::from(x)).sum();
     let active = active_level(sq, &counts(rate, samples))?;
     let long_term = 10.0 * (sq / samples.len() as f64).log10();
+    let factor = long_term - active;
     Some(Levels {
         long_term,
         active,
-        factor: long_term - active,
+        factor,
+        percent: 100.0 * 10f64.powf(factor / 10.0),
     })
 }

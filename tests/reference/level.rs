@@ -21,6 +21,11 @@ pub fn lev(N: u128) -> Option<u64> {
     Some(4096 * b + bits)
 }
 
+/// lev, signed for differences (the customer's scope, "The level logarithm").
+pub fn steps(N: u128) -> Option<i64> {
+    lev(N).map(|level| level as i64)
+}
+
 /// The place of the highest one bit of an N above 0 (the customer's scope, "The level logarithm").
 fn highest_one_bit(N: u128) -> u64 {
     let mut b = 0;

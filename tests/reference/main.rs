@@ -19,6 +19,7 @@ mod host;
 mod level;
 mod measurement;
 mod meter;
+mod percent;
 mod printed;
 mod rate;
 mod records;

@@ -13,6 +13,8 @@ pub struct Levels {
     pub active: f64,
     /// Ten times the logarithm of the activity factor.
     pub factor: f64,
+    /// The activity factor in percent.
+    pub percent: f64,
 }
 
 /// A measurement as a replay program printed it.
@@ -32,12 +34,13 @@ fn totals_of(answer: &Result<Report, u32>, meter: &Meter) -> bool {
     }
 }
 
-/// The levels of a report.
+/// The levels of a report; its T is in hundredths of a percent (the customer's request L1).
 fn levels(report: Report) -> Levels {
     Levels {
         long_term: STEP * report.L as f64,
         active: STEP * report.A as f64,
         factor: STEP * report.F as f64,
+        percent: report.T as f64 / 100.0,
     }
 }
 

@@ -1,7 +1,8 @@
 //! The meter and its report.
 
 use crate::block;
-use crate::level::lev;
+use crate::level::steps;
+use crate::percent;
 use crate::rate::{rate, Rate};
 
 /// The most samples that a meter counts (the customer's scope, "Why a call is refused").
@@ -11,7 +12,7 @@ pub const MOST_SAMPLES: u64 = 1 << 48;
 pub const MOST_IN_CHUNK: usize = 4096;
 
 /// The margin in steps (the customer's scope, "The report").
-const M: i64 = 21635;
+pub const M: i64 = 21635;
 
 /// What a meter holds (the customer's scope, "One sample").
 #[derive(Clone)]
@@ -26,7 +27,7 @@ pub struct Meter {
     pub h: [u64; 15],
 }
 
-/// What a report holds (the customer's scope, "The report").
+/// What a report holds (the customer's scope, "The report"; the customer's request L1).
 #[derive(Clone, Debug, PartialEq)]
 pub struct Report {
     pub n: u64,
@@ -39,16 +40,12 @@ pub struct Report {
     pub F: i64,
     pub lower: usize,
     pub upper: usize,
+    pub T: u64,
 }
 
 /// Threshold c_j in units (the customer's scope, "One sample").
 pub fn c(j: usize) -> u64 {
     1 << (j + 24)
-}
-
-/// lev, signed for differences (the customer's scope, "The level logarithm").
-fn steps(N: u128) -> Option<i64> {
-    lev(N).map(|level| level as i64)
 }
 
 /// C_j (the customer's scope, "The report").
@@ -231,7 +228,8 @@ impl Meter {
         Some((A_before + rise, j - 1, j))
     }
 
-    /// The report at j, where a crossing is there (the customer's scope, "The report").
+    /// The report at j, where a crossing is there (the customer's scope, "The report"; the
+    /// customer's request L1).
     pub fn report_at(&self, j: usize) -> Option<Report> {
         if !self.crossing_at(j) {
             return None;
@@ -249,6 +247,7 @@ impl Meter {
             F: L - A,
             lower,
             upper,
+            T: percent::T(L - A),
         })
     }
 

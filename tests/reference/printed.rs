@@ -11,7 +11,7 @@ pub fn numbers(line: &str, word: &str) -> Option<Vec<i128>> {
 /// The report of a report's line, or the number of its refusal, which stands alone.
 pub fn report(line: &str) -> Option<Result<Report, u32>> {
     match numbers(line, "report")?[..] {
-        [0, n, s, high, low, ref a @ .., L, A, C, F, lower, upper] => Some(Ok(Report {
+        [0, n, s, high, low, ref a @ .., L, A, C, F, lower, upper, T] => Some(Ok(Report {
             n: u64::try_from(n).ok()?,
             s: i64::try_from(s).ok()?,
             sq: two_words(high, low)?,
@@ -22,6 +22,7 @@ pub fn report(line: &str) -> Option<Result<Report, u32>> {
             F: i64::try_from(F).ok()?,
             lower: usize::try_from(lower).ok()?,
             upper: usize::try_from(upper).ok()?,
+            T: u64::try_from(T).ok()?,
         })),
         [r] if r != 0 => Some(Err(u32::try_from(r).ok()?)),
         _ => None,

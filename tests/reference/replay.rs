@@ -54,8 +54,16 @@ pub fn report_line(answer: &Result<Report, u32>) -> String {
     let (high, low) = words(report.sq);
     let counts = report.a.map(|a_j| a_j.to_string()).join(" ");
     format!(
-        "report 0 {} {} {high} {low} {counts} {} {} {} {} {} {}",
-        report.n, report.s, report.L, report.A, report.C, report.F, report.lower, report.upper
+        "report 0 {} {} {high} {low} {counts} {} {} {} {} {} {} {}",
+        report.n,
+        report.s,
+        report.L,
+        report.A,
+        report.C,
+        report.F,
+        report.lower,
+        report.upper,
+        report.T
     )
 }
 

@@ -1,7 +1,7 @@
 //! The report program: measures the blocks on its input and prints what was measured.
 
 use crate::block;
-use crate::meter::Meter;
+use crate::meter::{Meter, Report};
 use crate::rate::{Rate, RATES};
 use crate::records::words;
 
@@ -24,12 +24,13 @@ pub fn report(input: &[u8]) -> String {
     lines + &measurement(&meter)
 }
 
-/// The five lines at the end (the customer's scope, "Worked figures").
+/// The lines at the end: five (the customer's scope, "Worked figures"), and one more after a level
+/// (the customer's request L1).
 fn measurement(meter: &Meter) -> String {
     let (high, low) = words(meter.sq);
     let counts = meter.a.map(|a_j| a_j.to_string()).join(" ");
     let last = match meter.report() {
-        Ok(report) => format!("level {} {} {} {}", report.L, report.A, report.C, report.F),
+        Ok(Report { L, A, C, F, T, .. }) => format!("level {L} {A} {C} {F}\npercent {T}"),
         Err(r) => format!("refused {r}"),
     };
     format!(

@@ -30,6 +30,13 @@ const LONG_TERM_BOUND: f64 = 2.0 * STEP;
 /// less that weighs.
 const ACTIVE_BOUND: f64 = 0.005;
 
+/// How far apart the percentages may be, in percent.
+///
+/// By the facts about lev, T hundredths are less than the factor two steps above F, and T + 1 are
+/// more than the one a step below it: 0.034 too much at most, or 0.017 and a hundredth too little.
+/// The factors themselves may be ACTIVE_BOUND apart, which is at most 0.116.
+const PERCENT_BOUND: f64 = 0.15;
+
 /// The script of one measurement of the samples.
 pub fn script(rate: &Rate, samples: &[i16]) -> Vec<u8> {
     let mut out = Vec::new();
@@ -58,27 +65,38 @@ fn compare(tally: &mut Tally, measured: &Levels, expected: &Levels) {
     let rows = [
         (
             "active level",
+            "dB",
             measured.active,
             expected.active,
             ACTIVE_BOUND,
         ),
         (
             "long-term level",
+            "dB",
             measured.long_term,
             expected.long_term,
             LONG_TERM_BOUND,
         ),
         (
             "activity factor",
+            "dB",
             measured.factor,
             expected.factor,
             ACTIVE_BOUND,
         ),
+        (
+            "activity factor",
+            "%",
+            measured.percent,
+            expected.percent,
+            PERCENT_BOUND,
+        ),
     ];
-    for (name, measured, expected, bound) in rows {
+    for (name, unit, measured, expected, bound) in rows {
         let difference = measured - expected;
         let line = format!(
-            "{name} {measured:.4} dB for {expected:.4} dB (off by {difference:.4}, bound {bound:.4})"
+            "{name} {measured:.4} {unit} for {expected:.4} {unit} \
+             (off by {difference:.4}, bound {bound:.4})"
         );
         tally.shown(&line, difference.abs() <= bound);
     }

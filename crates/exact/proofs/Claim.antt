@@ -1,10 +1,8 @@
 -- The whole claim: `claim`. Each clause is a theorem of its own, of the meter's crate or of this one.
 use mathlib.Core.Path.{sym, subst}
-use Rattle.refusal.specs.First.{NoneApplies}
 use Rattle.block.proofs.Laws.{host-given}
 use Rattle.meter.specs.Opened.{Fresh}
-use Rattle.meter.specs.Reports.{reportRules}
-use Rattle.meter.proofs.Laws.{open-given, chunk-given, block-given, report-given, refused-chunk, refused-block, report-meter, refused-open, zeros-chunk, zeros-block, zeros-report, opened, fresh-fields, factor-never-above, block-taken, block-samples, empty-chunk}
+use Rattle.meter.proofs.Laws.{open-given, chunk-given, block-given, report-given, refused-chunk, refused-block, report-meter, refused-report, refused-open, zeros-chunk, zeros-block, zeros-report, opened, fresh-fields, factor-never-above, percent-never-smaller, block-taken, block-samples, empty-chunk}
 use Rattle.meter.proofs.Outcome.{answered}
 use Rattle.exact.specs.Demands.{Demand1, Demand2, Claim}
 use Rattle.exact.proofs.Demand3.{demand3}
@@ -22,6 +20,7 @@ demand1 =
       chunk-refused = refused-chunk;
       block-refused = refused-block;
       report-hands-back = report-meter;
+      report-refused = refused-report;
       open-refused = refused-open;
       zeros-chunk = zeros-chunk;
       zeros-block = zeros-block;
@@ -29,13 +28,13 @@ demand1 =
     }
 
 demand2 : Demand2
-unfolding NoneApplies reportRules
 demand2 =
     record {
       opened = λ c z. subst (Fresh c) (sym (opened c z)) (fresh-fields c);
       measured = measured;
       reported = answered;
-      factor = λ m z. factor-never-above m (report-given m .0 .accepted .0 z .0) z;
+      factor = factor-never-above;
+      percent-never-falls = percent-never-smaller;
       block-taken = block-taken;
       block-samples = λ m b z. block-samples m b (block-taken m b .0 z);
       empty-chunk = empty-chunk;

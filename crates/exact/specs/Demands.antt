@@ -1,14 +1,14 @@
 -- The whole claim: the customer's three demands, each a record with a field for each clause of its sentence, and `Claim`, that all three hold. What
 -- only the check of the code can show stands as a comment that names the contracts. What is in quotes are his words; his "document 01" is the scope
--- that docs/METHOD.md states.
-use mathlib.Core.Bool.{Bool, false}
+-- that docs/METHOD.md states, and L1 the first of the requests by which he amended it.
+use mathlib.Core.Bool.{Bool, true, false}
 use mathlib.Core.List.{List, [], _∷_}
 use mathlib.Core.Logic.{_↔_}
 use mathlib.Core.Path.{_≡_}
 use Prim.Native.Nat.{ℕ, _+_, _*_, _^_, _≤_, _<_}
 use lib.IntN.{ℤ, pos, natAbs, _+ℤ_}
 use lib.ListN.{length}
-use lib.Signed.{ltZ}
+use lib.Signed.{ltZ, leZ}
 use Rattle.level.specs.Types.{thresholds, activity, twoWords}
 use Rattle.refusal.specs.First.{Rule, NoneApplies, Given, Lowest}
 use Rattle.setting.specs.declared.Setting.{Setting}
@@ -19,7 +19,7 @@ use Rattle.sample.specs.Envelope.{threshold}
 use Rattle.sample.specs.Sample.{freshState, stateAfter}
 use Rattle.meter.specs.declared.Meter.{Meter}
 use Rattle.meter.specs.declared.Report.{Report}
-use Rattle.meter.specs.Answered.{Answered}
+use Rattle.meter.specs.Answered.{AllZero, Answered}
 use Rattle.meter.specs.Calls.{HandedReport, countingOf, afterSamples, openCall, chunkCall, blockCall, reportCall}
 use Rattle.meter.specs.Opened.{Fresh, Zeros}
 use Rattle.meter.specs.Refusals.{impossible, openRules, chunkRules, blockCallRules}
@@ -88,10 +88,12 @@ pub record Demand1 : Type 0 where
   pub block-number : (m : Meter) (b : List ℕ) → Numbered (blockCallRules m b) (blockCall m b .number)
   pub report-number : (m : Meter) → Numbered (reportRules m) (reportCall m .number)
   pub host-number : (b : List ℕ) (code : ℕ) → Numbered (hostRules b code) (hostCheck b code)
-  -- "a refused call gives back the meter it was handed"; opening was handed none, and gives one of all zeros, which every later call refuses with 2
+  -- "a refused call gives back the meter it was handed", and a refused report call a report of all zeros; opening was handed no meter, and gives one of
+  -- all zeros, which every later call refuses with 2
   pub chunk-refused : (m : Meter) (xs : List ℤ) → 0 < chunkCall m xs .number → chunkCall m xs .meter ≡ m
   pub block-refused : (m : Meter) (b : List ℕ) → 0 < blockCall m b .number → blockCall m b .meter ≡ m
   pub report-hands-back : (m : Meter) → reportCall m .meter ≡ m
+  pub report-refused : (m : Meter) → 0 < reportCall m .number → AllZero (reportCall m .report)
   pub open-refused : (c : Setting) → 0 < openCall c .number → Zeros (openCall c .meter)
   pub zeros-chunk : (m : Meter) → Zeros m → (xs : List ℤ) → chunkCall m xs .number ≡ 2
   pub zeros-block : (m : Meter) → Zeros m → (b : List ℕ) → blockCall m b .number ≡ 2
@@ -110,6 +112,10 @@ pub record Demand2 : Type 0 where
   -- "crossing, levels and factor": a report on any meter that 2 lets pass is the one of METHOD.md; F is never above 0
   pub reported : (m : Meter) → impossible m ≡ false → Answered m (reportCall m .number) (reportCall m .report)
   pub factor : (m : Meter) → reportCall m .number ≡ 0 → ltZ (pos 0) (reportCall m .report .levels .factor .0) ≡ false
+  -- and, as his request L1 has it, "A larger F must never show a smaller percentage": of any two reports with levels
+  pub percent-never-falls : (m m′ : Meter) → reportCall m .number ≡ 0 → reportCall m′ .number ≡ 0
+      → leZ (reportCall m .report .levels .factor .0) (reportCall m′ .report .levels .factor .0) ≡ true
+      → reportCall m .report .percent .0 ≤ reportCall m′ .report .percent .0
   -- "a sample block is taken exactly when it breaks none of the rules"; taken, its samples are
   pub block-taken : (m : Meter) (b : List ℕ) → (blockCall m b .number ≡ 0) ↔ NoneApplies (blockCallRules m b)
   pub block-samples : (m : Meter) (b : List ℕ) → blockCall m b .number ≡ 0 → blockCall m b .meter ≡ afterSamples m (samplesIn b)

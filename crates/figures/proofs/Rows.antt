@@ -1,35 +1,58 @@
--- The test of a row, and that a row whose test passes holds.
+-- The test of a row, and that a row whose test passes holds. A percentage is never searched for: its law tells it.
 use mathlib.Core.Bool.{Bool, true, _&&_, and-eq-true-iff}
 use mathlib.Core.List.{List, [], _∷_}
 use mathlib.Core.Option.{none, some}
-use mathlib.Core.Path.{_≡_}
+use mathlib.Core.Path.{_≡_, sym, _∙_}
 use Prim.Native.Nat.{ℕ, _+_, _-_, _*_, _^_}
+use native.Mathlib.Omega.{arith}
+use borrow.Author.Tests.{ne-eqb}
+use lib.Dec.{eqb}
 use lib.IntN.{ℤ, pos}
 use lib.ListN.{length}
 use Rattle.level.specs.Logarithm.{levelOf}
 use Rattle.rate.specs.Rates.{rowOf}
 use Rattle.block.specs.Refusals.{hostCheck}
+use Rattle.percent.specs.Percent.{whole, notAbove, percentOf}
+use Rattle.percent.proofs.Laws.{percent-at, percent-only}
 use Rattle.sample.specs.Envelope.{threshold}
+use Rattle.meter.specs.declared.Meter.{Meter}
 use Rattle.meter.specs.Calls.{openCall, chunkCall, reportCall}
+use Rattle.meter.proofs.Laws.{percent-of}
 use Rattle.exact.specs.Demands.{countAt}
 use Rattle.exact.specs.Envelope.{envelopeAfter, exactEnvelopeAfter}
 use Rattle.figures.specs.Meters.{settingOf, given, countsOf}
-use Rattle.figures.specs.Rows.{Shown, Values, Row, level, noLevel, sampled, reported, refused, opened, handedIn, answered, checked, played, counted, needsTwo, needsD, sampledMeter, meterFrom, exactFrom, numbersOf, levelsOf, valuesOf, Holds, All}
-use Rattle.figures.proofs.Tests.{Test, via, _and_, atMost, itself, _on_, Equality, sameNumber, sameInteger, sameList, sameOption}
+use Rattle.figures.specs.Rows.{Shown, nothing, Values, Row, level, noLevel, percent, sampled, reported, refused, opened, handedIn, answered, checked, played, counted, needsTwo, needsD, sampledMeter, meterFrom, exactFrom, numbersOf, levelsOf, valuesOf, Holds, All}
+use Rattle.figures.proofs.Tests.{Test, via, _and_, is, isNot, unless, atMost, itself, _on_, Equality, sameNumber, sameInteger, sameList, sameOption}
 
--- levels, and values, by their fields
-abbrev levels : (L A C F : ℤ) (lower upper : ℕ) → Shown
-levels L A C F lower upper = record { L = L; A = A; C = C; F = F; lower = lower; upper = upper }
+-- the percentage of a factor, by its law: two logarithms beside lev(10000)
+abbrev percentage : (F : ℤ) (T : ℕ) → Test (percentOf F ≡ T)
+percentage F T =
+    via (λ h. percent-at F T (h .0) (λ l. h .1 .0 (ne-eqb T 0 (λ e. omega arith))) (λ l. h .1 .1 (ne-eqb T whole (λ e. omega arith))))
+    (atMost T whole
+    and unless (eqb T 0) (is (notAbove F T))
+    and unless (eqb T whole) (isNot (notAbove F (T + 1))))
 
-abbrev pub sameLevels : Equality Shown
-sameLevels x y =
-    itself levels
+-- what a report on a meter shows, and values, by their fields
+abbrev shown : (L A C F : ℤ) (lower upper T : ℕ) → Shown
+shown L A C F lower upper T = record { L = L; A = A; C = C; F = F; lower = lower; upper = upper; T = T }
+
+abbrev reportedPercentage : (m : Meter) (T : ℕ) → Test (reportCall m .report .percent .0 ≡ T)
+reportedPercentage m T =
+    via (λ h. sym (percent-only _ (percent-of m (h .0))) ∙ h .1)
+    (sameNumber (reportCall m .number) 0 and percentage (reportCall m .report .levels .factor .0) T)
+
+unfoldable pub sameShown : (m : Meter) (y : Shown) → Test (reportCall m .report .percent .0 ≡ y .T) → Test (levelsOf (reportCall m .report) ≡ y)
+unfolding levelsOf
+sameShown m y samePercentage =
+    let x = levelsOf (reportCall m .report) in
+    itself shown
     on sameInteger (x .L) (y .L)
     on sameInteger (x .A) (y .A)
     on sameInteger (x .C) (y .C)
     on sameInteger (x .F) (y .F)
     on sameNumber (x .lower) (y .lower)
     on sameNumber (x .upper) (y .upper)
+    on samePercentage
 
 abbrev values : (n : ℕ) (s : ℤ) (high low P Q : ℕ) (a h : List ℕ) → Values
 values n s high low P Q a h = record { n = n; s = s; high = high; low = low; P = P; Q = Q; a = a; h = h }
@@ -51,6 +74,7 @@ unfoldable pub testOf : (r : Row) → Test (Holds r)
 unfolding Holds
 testOf (level N v) = sameOption sameInteger (levelOf N) (some (pos v))
 testOf (noLevel N) = sameOption sameInteger (levelOf N) none
+testOf (percent F T) = percentage F T
 testOf (sampled code xs P Q a number) =
     let m = sampledMeter code xs in
     via (λ h. (h .0, h .1 .0, h .1 .1 .0, h .1 .1 .1))
@@ -59,9 +83,11 @@ testOf (sampled code xs P Q a number) =
     and sameList sameNumber (countsOf m) a
     and sameNumber (reportCall m .number) number)
 testOf (reported n sq a r) =
-    let got = reportCall (given n sq a) in
-    sameNumber (got .number) 0 and sameLevels (levelsOf (got .report)) r
-testOf (refused n sq a number) = sameNumber (reportCall (given n sq a) .number) number
+    let m = given n sq a in
+    sameNumber (reportCall m .number) 0 and sameShown m r (reportedPercentage m (r .T))
+testOf (refused n sq a number) =
+    let m = given n sq a in
+    sameNumber (reportCall m .number) number and sameShown m nothing (sameNumber (reportCall m .report .percent .0) 0)
 testOf (opened code number) = sameNumber (openCall (settingOf code) .number) number
 testOf (handedIn m number) = sameNumber (chunkCall m [] .number) number
 testOf (answered m calls numbers) = sameList sameNumber (numbersOf m calls) numbers

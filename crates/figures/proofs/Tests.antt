@@ -1,12 +1,12 @@
 -- Tests that compute, each with what it shows where it passes.
-use mathlib.Core.Bool.{Bool, true, false, _&&_, and-eq-true-iff, false≢true}
+use mathlib.Core.Bool.{Bool, true, false, not, _&&_, and-eq-true-iff, true≢false, false≢true}
 use mathlib.Core.List.{List, [], _∷_}
 use mathlib.Core.Option.{Option, none, some}
 use mathlib.Core.Path.{_≡_, refl}
 use Prim.Native.Nat.{ℕ, _≤_}
 use lib.Dec.{eqb, leb}
 use lib.IntN.{ℤ, pos, negsuc}
-use borrow.Author.Tests.{eqb-true, leb-true}
+use borrow.Author.Tests.{not-true, eqb-true, leb-true}
 
 -- a test for P
 pub record Test (P : Type 0) : Type 0 where
@@ -30,6 +30,17 @@ s and t =
 -- what does not hold has a test that never passes
 abbrev never : {P : Type 0} → Test P
 never = record { passes = false; shows = λ e. absurd (false≢true e) }
+
+-- a test that comes out true, or false; and one that is only asked where another comes out false
+abbrev pub is : (b : Bool) → Test (b ≡ true)
+is b = record { passes = b; shows = λ e. e }
+
+abbrev pub isNot : (b : Bool) → Test (b ≡ false)
+isNot b = record { passes = not b; shows = not-true b }
+
+abbrev pub unless : {P : Type 0} (b : Bool) → Test P → Test (b ≡ false → P)
+unless true t = record { passes = true; shows = λ e f. absurd (true≢false f) }
+unless false t = record { passes = t .passes; shows = λ e f. t .shows e }
 
 -- m ≤ n
 abbrev pub atMost : (m n : ℕ) → Test (m ≤ n)

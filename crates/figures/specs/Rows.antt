@@ -8,6 +8,7 @@ use lib.ListN.{length}
 use Rattle.level.specs.Logarithm.{levelOf}
 use Rattle.rate.specs.Rates.{rowOf}
 use Rattle.block.specs.Refusals.{hostCheck}
+use Rattle.percent.specs.Percent.{percentOf}
 use Rattle.sample.specs.Envelope.{threshold}
 use Rattle.meter.specs.declared.Meter.{Meter}
 use Rattle.meter.specs.declared.Report.{Report}
@@ -19,7 +20,7 @@ use Rattle.exact.specs.Exact.{E}
 use Rattle.exact.specs.Lists.{called}
 use Rattle.figures.specs.Meters.{settingOf, freshAt, given, countsOf}
 
--- the levels of a report
+-- the levels of a report, its thresholds and its percentage
 pub record Shown : Type 0 where
   pub L : ℤ
   pub A : ℤ
@@ -27,6 +28,11 @@ pub record Shown : Type 0 where
   pub F : ℤ
   pub lower : ℕ
   pub upper : ℕ
+  pub T : ℕ
+
+-- what a refused report shows
+abbrev pub nothing : Shown
+nothing = record { L = pos 0; A = pos 0; C = pos 0; F = pos 0; lower = 0; upper = 0; T = 0 }
 
 -- the values of a meter after calls
 pub record Values : Type 0 where
@@ -44,11 +50,13 @@ pub data Row : Type 0 where
   level : (N v : ℕ) → Row
   -- N has no level
   noLevel : (N : ℕ) → Row
+  -- the percentage of a factor F is T
+  percent : (F : ℤ) (T : ℕ) → Row
   -- a fresh meter of a code after samples has P, Q and activity counts a, and its report is answered with number
   sampled : (code : ℕ) (xs : List ℤ) (P Q : ℕ) (a : List ℕ) (number : ℕ) → Row
   -- a meter handed in at code 2 with n, sq and a gets a report of these levels
   reported : (n sq : ℕ) (a : List ℕ) → Shown → Row
-  -- a meter handed in at code 2 with n, sq and a is refused a report with number
+  -- a meter handed in at code 2 with n, sq and a is refused a report with number, and its levels are all zero
   refused : (n sq : ℕ) (a : List ℕ) (number : ℕ) → Row
   -- opening with a code is answered with number
   opened : (code number : ℕ) → Row
@@ -91,6 +99,7 @@ levelsOf r =
       F = r .levels .factor .0;
       lower = r .levels .lower;
       upper = r .levels .upper;
+      T = r .percent .0;
     }
 
 unfoldable pub valuesOf : Meter → Values
@@ -109,11 +118,12 @@ valuesOf m =
 unfoldable pub Holds : Row → Type 0
 Holds (level N v) = levelOf N ≡ some (pos v)
 Holds (noLevel N) = levelOf N ≡ none
+Holds (percent F T) = percentOf F ≡ T
 Holds (sampled code xs P Q a number) =
     let m = sampledMeter code xs in
     (m .state .sums .p ≡ P) × (m .state .sums .q ≡ Q) × (countsOf m ≡ a) × (reportCall m .number ≡ number)
 Holds (reported n sq a r) = (reportCall (given n sq a) .number ≡ 0) × (levelsOf (reportCall (given n sq a) .report) ≡ r)
-Holds (refused n sq a number) = reportCall (given n sq a) .number ≡ number
+Holds (refused n sq a number) = (reportCall (given n sq a) .number ≡ number) × (levelsOf (reportCall (given n sq a) .report) ≡ nothing)
 Holds (opened code number) = openCall (settingOf code) .number ≡ number
 Holds (handedIn m number) = chunkCall m [] .number ≡ number
 Holds (answered m calls numbers) = numbersOf m calls ≡ numbers

@@ -8,7 +8,7 @@ use Rattle.meter.specs.Calls.{openCall}
 use Rattle.exact.specs.Calls.{Call, chunk, block}
 use Rattle.figures.specs.Blocks.{soundBlock, fullBlock, endBlock, twenty, threeBytes, otherSum, highSum, otherWeighted, otherKind, otherCode, noCount, highCount, usedNext, usedLast}
 use Rattle.figures.specs.Meters.{settingOf, freshAt, plain, withCode, withN, withS, withSq, withP, withQ, withA, withH}
-use Rattle.figures.specs.Rows.{Row, level, noLevel, sampled, reported, refused, opened, handedIn, answered, checked, played, counted, needsTwo, needsD}
+use Rattle.figures.specs.Rows.{Row, level, noLevel, percent, sampled, reported, refused, opened, handedIn, answered, checked, played, counted, needsTwo, needsD}
 
 -- x for the first k of fifteen, 0 for the others
 abbrev first : (k x : ℕ) → List ℕ
@@ -59,9 +59,9 @@ table =
     ∷ level (2 ^ 78) 319488
     ∷ sampled 2 (pos 32767 ∷ []) 2285825920 9504509 (first 0 0) 14
     ∷ sampled 2 (minus 1 ∷ []) 69760 290 (first 0 0) 14
-    ∷ reported 16384 (2 ^ 30) (first 8 4096) (record { L = pos 65536; A = pos 73728; C = pos 52093; F = minus 8192; lower = 6; upper = 7 })
-    ∷ reported 16384 (2 ^ 30) (replicate 7 4096 ++ (2048 ∷ replicate 7 0)) (record { L = pos 65536; A = pos 76669; C = pos 55034; F = minus 11133; lower = 6; upper = 7 })
-    ∷ reported 32768 1275068 (first 1 32768) (record { L = pos 21635; A = pos 21635; C = pos 0; F = pos 0; lower = 0; upper = 0 })
+    ∷ reported 16384 (2 ^ 30) (first 8 4096) (record { L = pos 65536; A = pos 73728; C = pos 52093; F = minus 8192; lower = 6; upper = 7; T = 2500 })
+    ∷ reported 16384 (2 ^ 30) (replicate 7 4096 ++ (2048 ∷ replicate 7 0)) (record { L = pos 65536; A = pos 76669; C = pos 55034; F = minus 11133; lower = 6; upper = 7; T = 1519 })
+    ∷ reported 32768 1275068 (first 1 32768) (record { L = pos 21635; A = pos 21635; C = pos 0; F = pos 0; lower = 0; upper = 0; T = 10000 })
     ∷ refused 32768 (2 ^ 20) (first 1 32768) 15
     -- those of the customer's rows that he has run, not proved
     ∷ answered (withN (2 ^ 48) plain) (chunk (pos 1 ∷ []) ∷ chunk [] ∷ []) (11 ∷ 0 ∷ [])
@@ -70,10 +70,19 @@ table =
     ∷ level (2 ^ 80) 327680
     ∷ noLevel 0
     ∷ noLevel (2 ^ 80 + 1)
+    -- percentages: the customer's, and both ends of the range
+    ∷ percent (minus 8192) 2500
+    ∷ percent (pos 0) 10000
+    ∷ percent (minus 1) 9999
+    ∷ percent (minus 4096) 5000
+    ∷ percent (minus 54426) 1
+    ∷ percent (minus 54427) 0
+    ∷ percent (pos (2 ^ 63 - 1)) 10000
+    ∷ percent (minus (2 ^ 63)) 0
     -- the third rate
     ∷ sampled 3 (pos 32767 ∷ []) 1143961504 2380489 (first 0 0) 14
     -- a crossing at the last threshold
-    ∷ reported 16384 (2 ^ 44) (first 15 4096) (record { L = pos 122880; A = pos 131072; C = pos 109437; F = minus 8192; lower = 13; upper = 14 })
+    ∷ reported 16384 (2 ^ 44) (first 15 4096) (record { L = pos 122880; A = pos 131072; C = pos 109437; F = minus 8192; lower = 13; upper = 14; T = 2500 })
     -- the other refusals of a report
     ∷ refused 1 (2 ^ 30 + 1) (first 0 0) 2
     ∷ refused 0 0 (first 0 0) 12
@@ -161,9 +170,9 @@ table =
     -- Q reaches 2^30 exactly: ≥ against >
     ∷ sampled 1 (pos 9126 ∷ pos 11705 ∷ []) 16052775414 (2 ^ 30) (replicate 5 2 ++ (1 ∷ 1 ∷ replicate 8 0)) 16
     -- two crossings: the lowest is used
-    ∷ reported (2 ^ 30) (2 ^ 40) (replicate 4 (2 ^ 30) ++ replicate 11 (2 ^ 14)) (record { L = pos 40960; A = pos 40960; C = pos 19325; F = pos 0; lower = 2; upper = 3 })
+    ∷ reported (2 ^ 30) (2 ^ 40) (replicate 4 (2 ^ 30) ++ replicate 11 (2 ^ 14)) (record { L = pos 40960; A = pos 40960; C = pos 19325; F = pos 0; lower = 2; upper = 3; T = 10000 })
     -- the interpolation rounds down
-    ∷ reported 16384 (2 ^ 30) (replicate 7 4096 ++ (3000 ∷ replicate 7 0)) (record { L = pos 65536; A = pos 74580; C = pos 52945; F = minus 9044; lower = 6; upper = 7 })
+    ∷ reported 16384 (2 ^ 30) (replicate 7 4096 ++ (3000 ∷ replicate 7 0)) (record { L = pos 65536; A = pos 74580; C = pos 52945; F = minus 9044; lower = 6; upper = 7; T = 2164 })
     -- the meter and E over a run of calls
     ∷ played 1 run (record {
       n = 260;

@@ -1,5 +1,5 @@
 -- Demands 1 and 2 over the definitions, for any meter whatever: which number is given, what is handed back, when a block is taken, what the meter of
--- all zeros is told, and that a report's factor is never above 0 and its levels all exist.
+-- all zeros is told, and that a report's factor is never above 0, its percentage never smaller for a larger factor, and its levels all exist.
 use mathlib.Core.Bool.{true, false, cond}
 use mathlib.Core.List.{List, []}
 use mathlib.Core.Logic.{_⊎_, inl, inr, _↔_}
@@ -10,26 +10,28 @@ use native.Mathlib.Omega.{arith}
 use borrow.Author.Tests.{ne-eqb, le-ltb}
 use lib.Dec.{eqb, ltb, lit≤}
 use lib.IntN.{ℤ, pos, _-ℤ_}
-use lib.Signed.{ltZ}
+use lib.Signed.{ltZ, leZ}
 use Rattle.level.specs.Logarithm.{lev, levelOf}
 use Rattle.level.specs.Types.{thresholds, activity, twoWords, words}
 use Rattle.level.proofs.Laws.{level-exists}
 use Rattle.rate.proofs.Laws.{zero-unnamed}
-use Rattle.refusal.specs.First.{NoneApplies, rising, Given, Lowest}
+use Rattle.refusal.specs.First.{firstOf, NoneApplies, rising, Given, Lowest}
 use Rattle.refusal.proofs.Laws.{here, past, none, given-lowest}
 use Rattle.block.specs.Block.{samplesIn}
 use Rattle.block.specs.Refusals.{blockRules}
 use Rattle.sample.specs.Sample.{mostSamples, listFrom, freshState, stateAfter}
 use Rattle.crossing.proofs.Bounds.{Crossed, crossed, factor}
+use Rattle.percent.specs.Percent.{IsPercent}
+use Rattle.percent.proofs.Laws.{never-smaller}
 use Rattle.setting.specs.declared.Setting.{Setting}
 use Rattle.meter.specs.declared.Meter.{Meter}
 use Rattle.meter.specs.declared.Report.{Report}
-use Rattle.meter.specs.Answered.{powerOf, CrossingAt, Used, ReportAt, Answered, no-samples, no-signal, no-activity, level-below, level-above, levels}
+use Rattle.meter.specs.Answered.{powerOf, CrossingAt, Used, ReportAt, AllZero, Answered, no-samples, no-signal, no-activity, level-below, level-above, levels}
 use Rattle.meter.specs.Calls.{fresh, zeroMeter, afterSamples, openCall, chunkCall, blockCall, reportCall}
 use Rattle.meter.specs.Opened.{Fresh, Zeros}
 use Rattle.meter.specs.Refusals.{unnamedCode, anyOf, impossible, longChunk, tooMany, openRules, chunkRules, blockCallRules}
 use Rattle.meter.specs.Reports.{margin, reportRules}
-use Rattle.meter.proofs.Outcome.{answered}
+use Rattle.meter.proofs.Outcome.{zero-report, answered}
 use Rattle.meter.proofs.Possible.{Possible, possible, falling}
 
 -- ---- the number given is that of the first rule that applies, which is the lowest
@@ -70,6 +72,11 @@ refused-block m b h = refused _ _ _ h
 pub report-meter : (m : Meter) → reportCall m .meter ≡ m
 unfolding reportCall
 report-meter m = refl
+
+-- a refused report is all zeros, whatever it was refused with
+pub refused-report : (m : Meter) → 0 < reportCall m .number → AllZero (reportCall m .report)
+unfolding reportCall
+refused-report m h = subst AllZero (sym (simp (ne-eqb (firstOf (reportRules m)) 0 (λ e. omega arith)))) zero-report
 
 -- opening hands back the fresh meter; refused, the meter of all zeros
 pub opened : (c : Setting) → openCall c .number ≡ 0 → openCall c .meter ≡ fresh c
@@ -185,9 +192,24 @@ crossing-of m p j c =
     (λ h. falling m p (j - 1) j (omega arith) (c .place))
     (omega (arith, p .a-max (j - 1) (omega (arith, c .place)), p .n-max))
 
+-- a report has levels only where 2 lets the meter pass
+pub reportable : (m : Meter) → reportCall m .number ≡ 0 → impossible m ≡ false
+unfolding NoneApplies reportRules
+reportable m z = report-given m .0 .accepted .0 z .0
+
+-- T is the percentage of F, and of two reports that with the larger F has not the smaller T
+pub percent-of : (m : Meter) → reportCall m .number ≡ 0 → IsPercent (reportCall m .report .levels .factor .0) (reportCall m .report .percent .0)
+percent-of m z = with-levels (answered m (reportable m z)) z .report .T
+
+pub percent-never-smaller : (m m′ : Meter) → reportCall m .number ≡ 0 → reportCall m′ .number ≡ 0
+    → leZ (reportCall m .report .levels .factor .0) (reportCall m′ .report .levels .factor .0) ≡ true
+    → reportCall m .report .percent .0 ≤ reportCall m′ .report .percent .0
+percent-never-smaller m m′ z z′ l = never-smaller _ _ l (percent-of m z) (percent-of m′ z′)
+
 -- F is never above 0
-pub factor-never-above : (m : Meter) → impossible m ≡ false → reportCall m .number ≡ 0 → ltZ (pos 0) (reportCall m .report .levels .factor .0) ≡ false
-factor-never-above m ok z =
+pub factor-never-above : (m : Meter) → reportCall m .number ≡ 0 → ltZ (pos 0) (reportCall m .report .levels .factor .0) ≡ false
+factor-never-above m z =
+    let ok = reportable m z in
     let p = possible m ok in
     let L = with-levels (answered m ok) z in
     let c = crossing-of m p (L .j) (L .used .crossing) in

@@ -20,12 +20,13 @@ use Rattle.crossing.specs.Levels.{excess}
 use Rattle.crossing.specs.Crossing.{isZero, isCrossing, crossing}
 use Rattle.crossing.specs.Searched.{levelsAt, noLevels, crossingIn, firstExcess}
 use Rattle.crossing.proofs.Searching.{found, not-found}
+use Rattle.percent.proofs.Laws.{percent-is}
 use Rattle.meter.specs.declared.Meter.{Meter}
 use Rattle.meter.specs.Answered.{powerOf, CrossingAt, Used, ReportAt, AllZero, Active, Answered, no-samples, no-signal, no-activity, level-below, level-above, levels}
 use Rattle.meter.specs.Calls.{HandedReport, reportCall}
 use Rattle.meter.specs.Inner.{refusedReport, reportedWith}
 use Rattle.meter.specs.Refusals.{impossible}
-use Rattle.meter.specs.Reports.{margin, isNone, crossingOf, firstOfMeter, noSamples, noSignal, noActivity, levelBelow, levelAbove, reportRules, noReport, reportAt, reportFor}
+use Rattle.meter.specs.Reports.{margin, isNone, crossingOf, firstOfMeter, noSamples, noSignal, noActivity, levelBelow, levelAbove, reportRules, noReport, reportWith, reportAt, reportFor}
 
 -- a refused report
 pub no-report : (k : ℕ) (m : Meter) → 0 < k → k ≡ firstOf (reportRules m) → refusedReport k m ≡ reportCall m
@@ -127,14 +128,15 @@ module _ (m : Meter) (t : Tested m) where
 
 -- ---- the report of METHOD.md
 
-zero-report : AllZero noReport
+pub zero-report : AllZero noReport
 unfolding noReport noLevels words listFrom
 zero-report =
-    record { n = refl; s = refl; high = refl; low = refl; a = refl; L = refl; A = refl; C = refl; F = refl; lower = refl; upper = refl }
+    record { n = refl; s = refl; high = refl; low = refl; a = refl; L = refl; A = refl; C = refl; F = refl; lower = refl; upper = refl; T = refl }
 
 at-crossing : (m : Meter) (j : ℕ) → ReportAt m j (reportAt m j)
-unfolding reportAt levelsAt
-at-crossing m j = record { n = refl; s = refl; sq = refl; a = refl; L = refl; A = refl; C = refl; F = refl; lower = refl; upper = refl }
+unfolding reportAt reportWith levelsAt
+at-crossing m j =
+    record { n = refl; s = refl; sq = refl; a = refl; L = refl; A = refl; C = refl; F = refl; lower = refl; upper = refl; T = percent-is _ }
 
 -- what is answered, read off what a report call hands back
 abbrev Reads : Meter → HandedReport → Type 0

@@ -10,6 +10,7 @@ use Rattle.level.specs.Logarithm.{lev}
 use Rattle.level.specs.Types.{samplesOf, thresholds, activity, twoWords}
 use Rattle.crossing.specs.Levels.{longTerm, excess}
 use Rattle.crossing.specs.Crossing.{isCrossing, lowerOf, upperOf, activeLevel}
+use Rattle.percent.specs.Percent.{IsPercent}
 use Rattle.meter.specs.declared.Meter.{Meter}
 use Rattle.meter.specs.declared.Report.{Report}
 use Rattle.meter.specs.Reports.{margin}
@@ -43,6 +44,7 @@ pub record ReportAt (m : Meter) (j : ℕ) (r : Report) : Type 0 where
   pub F : r .levels .factor .0 ≡ r .levels .level .0 -ℤ r .levels .active .0
   pub lower : r .levels .lower ≡ lowerOf margin (powerOf m) (m .state .a) j
   pub upper : r .levels .upper ≡ upperOf j
+  pub T : IsPercent (r .levels .factor .0) (r .percent .0)
 
 -- where a report would stand, all its fields are zero
 pub record AllZero (r : Report) : Type 0 where
@@ -57,6 +59,7 @@ pub record AllZero (r : Report) : Type 0 where
   pub F : r .levels .factor .0 ≡ pos 0
   pub lower : r .levels .lower ≡ 0
   pub upper : r .levels .upper ≡ 0
+  pub T : r .percent .0 ≡ 0
 
 -- something was measured: n, sq and a_0 are above 0
 pub record Active (m : Meter) : Type 0 where

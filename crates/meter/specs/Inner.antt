@@ -18,7 +18,7 @@ use Rattle.setting.specs.declared.Setting.{Setting}
 use Rattle.meter.specs.declared.Meter.{Meter}
 use Rattle.meter.specs.Calls.{Handed, HandedReport, handed, countingOf, afterSamples}
 use Rattle.meter.specs.Refusals.{impossible, tooMany}
-use Rattle.meter.specs.Reports.{noReport}
+use Rattle.meter.specs.Reports.{noReport, reportWith}
 
 -- the rate of a meter that refusal 2 lets pass
 unfoldable pub usableRate : Meter → Option Rate
@@ -68,6 +68,4 @@ refusedReport k m = record { number = k; meter = m; report = noReport }
 
 -- a report with levels
 unfoldable pub reportedWith : Levels → Meter → HandedReport
-reportedWith l m =
-    let sums = m .state .sums in
-    record { number = 0; meter = m; report = record { n = sums .n; s = sums .s; sq = sums .sq; a = m .state .a; levels = l } }
+reportedWith l m = record { number = 0; meter = m; report = reportWith m l }

@@ -6,11 +6,13 @@ use Prim.Native.Nat.{ℕ}
 use lib.Dec.{eqb}
 use lib.IntN.{ℤ, pos}
 use lib.Signed.{ltZ}
-use Rattle.level.specs.Types.{samplesOf, thresholds, activity, twoWords, words}
+use Rattle.level.specs.Types.{samplesOf, hundredthsOf, thresholds, activity, twoWords, words}
 use Rattle.refusal.specs.First.{Rule}
 use Rattle.meter.specs.declared.Meter.{Meter}
 use Rattle.sample.specs.Sample.{each}
+use Rattle.crossing.specs.declared.Levels.{Levels}
 use Rattle.crossing.specs.Searched.{levelsAt, noLevels, crossingIn, firstExcess}
+use Rattle.percent.specs.Percent.{percentOf}
 use Rattle.meter.specs.declared.Report.{Report}
 use Rattle.meter.specs.Refusals.{impossible}
 
@@ -61,19 +63,27 @@ reportRules m =
 
 -- no report: all its fields are zero
 unfoldable pub noReport : Report
-noReport = record { n = samplesOf 0; s = pos 0; sq = words 0; a = each thresholds (λ j. samplesOf 0); levels = noLevels }
+noReport =
+    record { n = samplesOf 0; s = pos 0; sq = words 0; a = each thresholds (λ j. samplesOf 0); levels = noLevels; percent = hundredthsOf 0 }
 
--- the report at a crossing j
-unfoldable pub reportAt : Meter → ℕ → Report
-reportAt m j =
+-- the report with some levels: T is the percentage of their factor
+unfoldable pub reportWith : Meter → Levels → Report
+reportWith m l =
     let sums = m .state .sums in
     record {
       n = sums .n;
       s = sums .s;
       sq = sums .sq;
       a = m .state .a;
-      levels = levelsAt margin (sums .n .0) (twoWords (sums .sq)) (m .state .a) j;
+      levels = l;
+      percent = hundredthsOf (percentOf (l .factor .0));
     }
+
+-- the report at a crossing j
+unfoldable pub reportAt : Meter → ℕ → Report
+reportAt m j =
+    let sums = m .state .sums in
+    reportWith m (levelsAt margin (sums .n .0) (twoWords (sums .sq)) (m .state .a) j)
 
 -- the report at what the search for a crossing found
 unfoldable pub reportFor : Meter → Option ℕ → Report

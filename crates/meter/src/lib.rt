@@ -6,6 +6,7 @@ mod reporting;
 mod usable;
 
 use crossing::Levels;
+use level::Hundredths;
 use level::Samples;
 use level::Squares;
 use level::THRESHOLDS;
@@ -19,13 +20,14 @@ pub struct Meter {
     pub state: State,
 }
 
-// A report: n, s, sq, the activity counts, and the levels.
+// A report: n, s, sq, the activity counts, the levels, and the activity factor as a percentage.
 pub struct Report {
     pub n: Samples,
     pub s: i64,
     pub sq: Squares,
     pub a: [Samples; THRESHOLDS],
     pub levels: Levels,
+    pub percent: Hundredths,
 }
 
 // What a call hands back: its answer, and the meter.

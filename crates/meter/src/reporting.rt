@@ -11,6 +11,7 @@ use crate::Reported;
 use crate::usable;
 use crossing::Found;
 use crossing::Levels;
+use level::Hundredths;
 use level::Samples;
 use level::Squares;
 use level::Steps;
@@ -58,7 +59,7 @@ fn measured(meter: Meter) -> Reported
     }
 }
 
-// A report with levels.
+// A report with levels, and the percentage of their factor.
 fn reported(meter: Meter, levels: Levels) -> Reported
     ensures { λ r. ⌜ reportedBy r ≡ reportedWith levels meter ⌝ }
 {
@@ -66,6 +67,7 @@ fn reported(meter: Meter, levels: Levels) -> Reported
     let n = sums.n;
     let sq = sums.sq;
     let a = meter.state.a;
+    let factor = levels.factor;
     Reported {
         answer: Answer::Accepted,
         meter,
@@ -75,6 +77,7 @@ fn reported(meter: Meter, levels: Levels) -> Reported
             sq,
             a,
             levels,
+            percent: percent::percentage(factor),
         },
     }
 }
@@ -101,6 +104,7 @@ fn unreported(meter: Meter, why: Refusal) -> Reported
                 lower: 0,
                 upper: 0,
             },
+            percent: Hundredths::of(0),
         },
     }
 }

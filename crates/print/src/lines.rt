@@ -50,7 +50,7 @@ pub fn given(line: &mut [u8], used: usize, name: &[u8], fed: Fed) -> usize {
 }
 
 // A line with `report`, the number and, where there is a report, its n, s, sq high, sq low, the a_j, L, A,
-// C, F, lower and upper.
+// C, F, lower, upper and T.
 pub fn report(line: &mut [u8], used: usize, reported: Reported) -> usize {
     let answer = reported.answer;
     let used = text::words(line, used, b"report");
@@ -73,7 +73,8 @@ fn measured(line: &mut [u8], used: usize, report: Report) -> usize {
     let used = counts(line, used, a);
     let used = levels(line, used, found);
     let used = text::spaced(line, used, found.lower as u64);
-    text::spaced(line, used, found.upper as u64)
+    let used = text::spaced(line, used, found.upper as u64);
+    text::spaced(line, used, report.percent.number())
 }
 
 // Activity counts, each after a space.

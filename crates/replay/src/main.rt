@@ -5,15 +5,15 @@
 //   1 open     code u8                         prints `open r`
 //   2 chunk    count u16, count samples i16    prints `chunk r`
 //   3 block    length u16, bytes               prints `block r`
-//   4 report                                   prints `report 0` and the report's 25 values, or `report r`
+//   4 report                                   prints `report 0` and the report's 26 values, or `report r`
 //   5 load     the 37 values of a meter        prints `load`
 //   6 show                                     prints `meter` and the 37 values
 //   7 lev      high u64, low u64               prints `lev v`, or `lev none`
 //   8 check    code u8, length u16, bytes      prints `check r`, the C host's answer
 //
 // r is the refusal's number, or 0. The 37 values are the code u8 and then, eight bytes
-// each, n, s, sq high, sq low, P, Q, the fifteen a_j and the fifteen h_j. A report's 25 values are its n, s,
-// sq high, sq low, the fifteen a_j, L, A, C, F, and the lower and upper j. The run starts with a meter of
+// each, n, s, sq high, sq low, P, Q, the fifteen a_j and the fifteen h_j. A report's 26 values are its n, s,
+// sq high, sq low, the fifteen a_j, L, A, C, F, the lower and upper j, and T. The run starts with a meter of
 // all zeros; open and load replace it. A record that is cut short, or of another kind, ends the run with
 // the line `bad record k`, where k is its number, from 1; standard error says where it starts and what is
 // wrong with it. A failure to read or to write ends the run with a line on standard error alone.

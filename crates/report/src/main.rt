@@ -1,8 +1,8 @@
 // The report program (METHOD.md, "Worked figures"): measures sample blocks of rate code 1 from standard
-// input. A refused block has its line as it is read; at the end come five lines about the measurement.
-// Where not all of the input could be read, or not all lines written, standard error says so, and the
-// five lines are not printed.
-use crossing::Levels;
+// input. A refused block has its line as it is read; at the end come the closing lines, five about the
+// measurement and, where there is a level, one with the activity as a percentage. Where not all of the
+// input could be read, or not all lines written, standard error says so, and the closing lines are not
+// printed.
 use input::Coming;
 use input::Streams;
 use level::Samples;
@@ -10,6 +10,7 @@ use level::Squares;
 use level::THRESHOLDS;
 use meter::Fed;
 use meter::Meter;
+use meter::Report;
 use refusal::Answer;
 use sample::State;
 use setting::Setting;
@@ -17,7 +18,7 @@ use setting::Setting;
 fn main() {
     if os::arg_count() > 1 {
         print::told(
-            b"report takes no words: it reads sample blocks of 512 bytes from standard input, and prints a line for each that is refused and then five about the measurement\n",
+            b"report takes no words: it reads sample blocks of 512 bytes from standard input, and prints a line for each that is refused and then those about the measurement\n",
         );
         return;
     }
@@ -145,13 +146,13 @@ fn refused(line: &mut [u8], used: usize, number: u32) -> usize {
     print::end_of_line(line, used)
 }
 
-// The five lines.
+// The closing lines.
 fn reported(line: &mut [u8], meter: Meter) -> usize {
     let used = sums(line, meter.state);
     let given = meter.report();
     let answer = given.answer;
     match answer {
-        Answer::Accepted => levels(line, used, given.report.levels),
+        Answer::Accepted => levels(line, used, given.report),
         Answer::Refused(why) => refused(line, used, refusal::number(why)),
     }
 }
@@ -181,8 +182,11 @@ fn counts(line: &mut [u8], used: usize, a: [Samples; THRESHOLDS]) -> usize {
     print::end_of_line(line, used)
 }
 
-fn levels(line: &mut [u8], used: usize, levels: Levels) -> usize {
+// The line of the levels, and the percentage after it.
+fn levels(line: &mut [u8], used: usize, report: Report) -> usize {
     let used = print::words(line, used, b"level");
-    let used = print::levels(line, used, levels);
+    let used = print::levels(line, used, report.levels);
+    let used = print::words(line, used, b"\npercent");
+    let used = print::spaced(line, used, report.percent.number());
     print::end_of_line(line, used)
 }

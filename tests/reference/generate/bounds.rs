@@ -1,8 +1,9 @@
-//! Meters to hand in: plausible ones, and ones at and just past each bound of refusal 2.
+//! Meters to hand in: plausible ones, ones made for a report, and ones at and just past each bound
+//! of refusal 2.
 
 use super::random::Random;
-use crate::level::lev;
-use crate::meter::{Meter, MOST_SAMPLES};
+use crate::level::steps;
+use crate::meter::{Meter, M, MOST_SAMPLES};
 use crate::rate::rate;
 
 /// The bound of P and Q.
@@ -59,8 +60,8 @@ pub fn tuned(random: &mut Random, code: u8) -> Meter {
     let j = random.below(15) as usize;
     let bits = random.between(1, 30);
     let a_j = random.of_length(bits) as u64;
-    let level = lev(u128::from(a_j)).expect("a_j is above 0");
-    let sq = least_of_level(level + 8192 * j as u64 + 21635 - 1 + random.below(3));
+    let level = steps(u128::from(a_j)).expect("a_j is above 0");
+    let sq = least_of_level(level + 8192 * j as i64 + M - 1 + random.below(3) as i64);
     let n = a_j.max((sq >> 30) as u64 + 1) + random.below(1000);
     let mut a = [a_j / random.pick(&[1, 2, 16, 1 << 31]); 15];
     a[..=j].fill(a_j);
@@ -73,12 +74,31 @@ pub fn tuned(random: &mut Random, code: u8) -> Meter {
     }
 }
 
+/// A meter of this F, 0 or below, at a crossing anywhere up to the threshold of j = 12.
+///
+/// A_j is the same for every j, so that F is lev(a_j) - lev(n). Down to -60000 there is always such
+/// an a_j, since n has at least 30 bits; where F is too low for n, a_j is 1.
+pub fn of_factor(random: &mut Random, code: u8, F: i64) -> Meter {
+    let bits = random.between(30, 48);
+    let n = random.of_length(bits);
+    let a_j = least_of_level(steps(n).expect("n is above 0") + F);
+    let above = M + random.between(0, 8192 * 12) as i64;
+    let sq = least_of_level(steps(a_j).expect("a_j is above 0") + above);
+    Meter {
+        n: n as u64,
+        s: 0,
+        sq,
+        a: [a_j as u64; 15],
+        ..plausible(random, code)
+    }
+}
+
 /// The least number below 2^80 whose lev is not below a level.
-fn least_of_level(level: u64) -> u128 {
+fn least_of_level(level: i64) -> u128 {
     let (mut low, mut high) = (1, 1 << 80);
     while low < high {
         let middle = (low + high) / 2;
-        if lev(middle) < Some(level) {
+        if steps(middle) < Some(level) {
             low = middle + 1;
         } else {
             high = middle;

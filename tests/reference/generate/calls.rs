@@ -1,10 +1,11 @@
 //! Long scripts of calls on one line.
 
-use super::bounds::{bounds, plausible, tuned};
+use super::bounds::{bounds, of_factor, plausible, tuned};
 use super::random::Random;
 use super::script::Script;
 use super::signals::{noise, signal};
 use crate::meter::{Meter, MOST_IN_CHUNK, MOST_SAMPLES};
+use crate::percent::{difference, WHOLE};
 use crate::rate::rate;
 use crate::records::Record;
 
@@ -42,7 +43,7 @@ fn step(script: &mut Script) {
     if stuck && script.random.once_in(2) {
         return open(script);
     }
-    match script.random.below(80) {
+    match script.random.below(82) {
         0..=1 => open(script),
         2..=21 => chunk(script),
         22..=37 => sound_block(script),
@@ -57,6 +58,8 @@ fn step(script: &mut Script) {
         70 => bound(script),
         71..=72 => reported(script, plausible),
         73..=74 => reported(script, tuned),
+        75 => percentage_edge(script),
+        76 => any_percentage(script),
         _ => small_chunks(script),
     }
 }
@@ -245,10 +248,28 @@ fn bound(script: &mut Script) {
 }
 
 /// A meter of some making, and its report.
-fn reported(script: &mut Script, make: fn(&mut Random, u8) -> Meter) {
+fn reported(script: &mut Script, make: impl Fn(&mut Random, u8) -> Meter) {
     let code = named(script);
     let meter = make(&mut script.random, code);
     script.add(Record::Load(meter));
     script.add(Record::Report);
     script.add(Record::Show);
+}
+
+/// Reports at the least F that shows some T or a larger one, and a step to either side of it.
+fn percentage_edge(script: &mut Script) {
+    let any = script.random.between(1, WHOLE);
+    let T = script
+        .random
+        .pick(&[1, 2, WHOLE - 1, WHOLE, any, any, any, any]);
+    let least = difference(T).expect("T is above 0");
+    for F in [least - 1, least, least + 1] {
+        reported(script, |random, code| of_factor(random, code, F.min(0)));
+    }
+}
+
+/// A report at any F that a meter can have, mostly one too low for a T above 0.
+fn any_percentage(script: &mut Script) {
+    let F = -(script.random.between(0, 4096 * 48) as i64);
+    reported(script, |random, code| of_factor(random, code, F));
 }
