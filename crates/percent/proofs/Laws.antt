@@ -24,7 +24,7 @@ is-not-above : (F : ℤ) (T : ℕ) → AtMost (lev T) (lev whole) F → notAbove
 unfolding notAbove
 is-not-above F T h = at-most-test (lev T) (lev whole) F h
 
--- a smaller number is within what a larger one is within
+-- what a larger number is at most, a smaller one is too
 lower : (F : ℤ) (m n k : ℕ) → m ≤ n → AtMost n k F → AtMost m k F
 lower (pos f) m n k l h = omega arith
 lower (negsuc f) m n k l h = omega arith
