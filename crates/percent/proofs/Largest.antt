@@ -63,9 +63,9 @@ pub record Halving (f : ℕ → Bool) (k low width : ℕ) : Type 0 where
   pub places : ℕ
   pub power : width ≡ 2 ^ places
 
-pub begun : (f : ℕ → Bool) (k p : ℕ) → k < 2 ^ p → Halving f k 0 (2 ^ p)
-begun f k p h =
-    record { at-most = omega arith; holds = λ l. absurd (omega arith); none-from = λ U l u. absurd (omega arith); places = p; power = refl }
+pub begun : (f : ℕ → Bool) (k width p : ℕ) → k < width → width ≡ 2 ^ p → Halving f k 0 width
+begun f k width p h e =
+    record { at-most = omega arith; holds = λ l. absurd (omega arith); none-from = λ U l u. absurd (omega arith); places = p; power = e }
 
 -- half of a power of two that is above 1
 record Half (width : ℕ) : Type 0 where

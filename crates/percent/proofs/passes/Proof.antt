@@ -3,6 +3,7 @@ use borrow.Author.Needs.{needs}
 use borrow.Author.Tests.{lt-leb, le-leb}
 use mathlib.Core.Path.{_≡_, sym, ap, ap₂, _∙_, subst}
 use Prim.Native.Nat.{_^_, _<_}
+use native.Mathlib.Omega.{arith}
 use lib.IntN.{ℤ, pos, _-ℤ_}
 use lib.Signed.{mag, leZ}
 use mir.Syntax.{w64}
@@ -18,7 +19,7 @@ use Rattle.percent.proofs.passes.Tie as tie
 
 returns : tie.Need-returns
 unfolding passes
-returns c = sym (simp (lt-leb _ whole (c .if1 .taken)))
+returns c = sym (simp (lt-leb (c .before .args .t) whole (omega (arith, c .if1 .taken))))
 
 level-of-requires : tie.Need-level-of-requires
 level-of-requires c κs = c .before .pre .some
@@ -54,7 +55,7 @@ returns-2 : tie.Need-returns-2
 unfolding passes notAbove
 returns-2 c =
     ap₂ leZ (ap (λ (z : ℤ). toZ w64 (ofZ w64 z)) (words-are (c .before)) ∙ toZ-ofZ (difference (c .before))) (word (c .value3 .ok) (c .value3 .ensures))
-    ∙ sym (simp (le-leb _ whole (tested (c .before .before) .if1 .left)))
+    ∙ sym (simp (le-leb (start (c .before .before) .args .t) whole (omega (arith, tested (c .before .before) .if1 .left))))
 
 pub passes-spec : {M : Type 1} → statement M
 passes-spec =

@@ -18,7 +18,7 @@ abbrev μ-loop : tie.MeasureT-loop
 μ-loop factor top low₀ width₀ low width = width
 
 loop-holds : tie.Need-loop-holds Inv-loop μ-loop
-loop-holds c = (begun _ whole 14 (omega arith), omega arith)
+loop-holds c = (begun _ whole _ 14 (omega arith) (omega arith), omega arith)
 
 add-passes : tie.Need-add-passes Inv-loop μ-loop
 add-passes c = omega (arith, c .before .loop .inv .0 .at-most)
