@@ -87,7 +87,7 @@ testOf (reported n sq a r) =
     sameNumber (reportCall m .number) 0 and sameShown m r (reportedPercentage m (r .T))
 testOf (refused n sq a number) =
     let m = given n sq a in
-    sameNumber (reportCall m .number) number and sameShown m nothing (sameNumber (reportCall m .report .percent .0) 0)
+    sameNumber (reportCall m .number) number and sameShown m nothing (sameNumber (reportCall m .report .percent .0) (nothing .T))
 testOf (opened code number) = sameNumber (openCall (settingOf code) .number) number
 testOf (handedIn m number) = sameNumber (chunkCall m [] .number) number
 testOf (answered m calls numbers) = sameList sameNumber (numbersOf m calls) numbers
