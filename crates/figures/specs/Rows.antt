@@ -56,7 +56,7 @@ pub data Row : Type 0 where
   sampled : (code : ℕ) (xs : List ℤ) (P Q : ℕ) (a : List ℕ) (number : ℕ) → Row
   -- a meter handed in at code 2 with n, sq and a gets a report of these levels
   reported : (n sq : ℕ) (a : List ℕ) → Shown → Row
-  -- a meter handed in at code 2 with n, sq and a is refused a report with number, and its levels are all zero
+  -- a meter handed in at code 2 with n, sq and a is refused a report with number, and what the report shows is all zero
   refused : (n sq : ℕ) (a : List ℕ) (number : ℕ) → Row
   -- opening with a code is answered with number
   opened : (code number : ℕ) → Row

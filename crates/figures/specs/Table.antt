@@ -59,6 +59,12 @@ table =
     ∷ level (2 ^ 78) 319488
     ∷ sampled 2 (pos 32767 ∷ []) 2285825920 9504509 (first 0 0) 14
     ∷ sampled 2 (minus 1 ∷ []) 69760 290 (first 0 0) 14
+    ∷ percent (minus 8192) 2500
+    ∷ percent (pos 0) 10000
+    ∷ percent (minus 1) 9999
+    ∷ percent (minus 4096) 5000
+    ∷ percent (minus 54426) 1
+    ∷ percent (minus 54427) 0
     ∷ reported 16384 (2 ^ 30) (first 8 4096) (record { L = pos 65536; A = pos 73728; C = pos 52093; F = minus 8192; lower = 6; upper = 7; T = 2500 })
     ∷ reported 16384 (2 ^ 30) (replicate 7 4096 ++ (2048 ∷ replicate 7 0)) (record { L = pos 65536; A = pos 76669; C = pos 55034; F = minus 11133; lower = 6; upper = 7; T = 1519 })
     ∷ reported 32768 1275068 (first 1 32768) (record { L = pos 21635; A = pos 21635; C = pos 0; F = pos 0; lower = 0; upper = 0; T = 10000 })
@@ -70,13 +76,7 @@ table =
     ∷ level (2 ^ 80) 327680
     ∷ noLevel 0
     ∷ noLevel (2 ^ 80 + 1)
-    -- percentages: the customer's, and both ends of the range
-    ∷ percent (minus 8192) 2500
-    ∷ percent (pos 0) 10000
-    ∷ percent (minus 1) 9999
-    ∷ percent (minus 4096) 5000
-    ∷ percent (minus 54426) 1
-    ∷ percent (minus 54427) 0
+    -- the percentages at the ends of 64 bits
     ∷ percent (pos (2 ^ 63 - 1)) 10000
     ∷ percent (minus (2 ^ 63)) 0
     -- the third rate

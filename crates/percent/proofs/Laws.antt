@@ -8,7 +8,7 @@ use native.Mathlib.Omega.{arith}
 use borrow.Author.Tests.{le-ltb}
 use lib.IntN.{ℤ, pos, negsuc, _-ℤ_}
 use lib.Signed.{ltZ, leZ}
-use Rattle.signed.proofs.Order.{AtMost, at-most, at-most-test, at-most-more, above}
+use Rattle.signed.proofs.Order.{AtMost, at-most, at-most-test, at-most-less, at-most-more, above}
 use Rattle.level.specs.Logarithm.{lev}
 use Rattle.level.proofs.Laws.{facts}
 use Rattle.percent.specs.Percent.{whole, notAbove, percentOf, IsPercent}
@@ -24,13 +24,8 @@ is-not-above : (F : ℤ) (T : ℕ) → AtMost (lev T) (lev whole) F → notAbove
 unfolding notAbove
 is-not-above F T h = at-most-test (lev T) (lev whole) F h
 
--- what a larger number is at most, a smaller one is too
-lower : (F : ℤ) (m n k : ℕ) → m ≤ n → AtMost n k F → AtMost m k F
-lower (pos f) m n k l h = omega arith
-lower (negsuc f) m n k l h = omega arith
-
 pub falls : (F : ℤ) → Falls (notAbove F) whole
-falls F T U h l u e = is-not-above F T (lower F (lev T) (lev U) (lev whole) (facts .never-falls T U h l (omega arith)) (not-above-is F U e))
+falls F T U h l u e = is-not-above F T (at-most-less (lev T) (lev U) (lev whole) F (facts .never-falls T U h l (omega arith)) (not-above-is F U e))
 
 -- ---- what T is
 

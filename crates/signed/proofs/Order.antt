@@ -1,14 +1,12 @@
--- The difference of two natural numbers, held against a signed one: in natural numbers, and whether it fits 64 bits.
+-- The difference of two natural numbers, held against a signed one.
 use mathlib.Core.Bool.{Bool, true, false, cond, true≢false, false≢true}
 use mathlib.Core.Path.{_≡_, refl}
-use Prim.Native.Nat.{ℕ, zero, suc, _+_, _-_, _^_, _≤_, _<_}
+use Prim.Native.Nat.{ℕ, zero, suc, _+_, _-_, _≤_}
 use native.Mathlib.Omega.{arith}
 use borrow.Author.Tests.{leb-true, leb-false, le-leb, lt-ltb, ltb-true, ltb-false}
 use lib.Dec.{ltb}
 use lib.IntN.{ℤ, pos, negsuc, _-ℤ_}
-use lib.Signed.{mag, ltZ, leZ}
-use mir.Syntax.{w64}
-use mir.Val.{SFits}
+use lib.Signed.{ltZ, leZ}
 
 -- a − b ≤ z, in natural numbers
 abbrev pub AtMost : (a b : ℕ) (z : ℤ) → Type 0
@@ -38,7 +36,12 @@ at-most-test a zero (pos n) h = le-leb (a + 0) n (omega arith)
 at-most-test a zero (negsuc n) h = absurd (omega arith)
 at-most-test a (suc b) z h = join a b z (ltb a (suc b)) refl h
 
--- it is at most what is not below z
+-- what a larger number is at most, a smaller one is too
+pub at-most-less : (m n k : ℕ) (z : ℤ) → m ≤ n → AtMost n k z → AtMost m k z
+at-most-less m n k (pos a) l h = omega arith
+at-most-less m n k (negsuc a) l h = omega arith
+
+-- what is at most y is at most every z that is not below y
 pub at-most-more : (a b : ℕ) (y z : ℤ) → leZ y z ≡ true → AtMost a b y → AtMost a b z
 at-most-more a b (pos m) (pos n) e h = omega (arith, leb-true m n e)
 at-most-more a b (pos m) (negsuc n) e h = absurd (false≢true e)
@@ -51,12 +54,3 @@ above (pos m) (pos n) e = lt-ltb n m (leb-false m n e)
 above (pos m) (negsuc n) e = refl
 above (negsuc m) (pos n) e = absurd (true≢false e)
 above (negsuc m) (negsuc n) e = lt-ltb m n (leb-false n m e)
-
--- two natural numbers of 63 bits have a difference of 64
-difference-mag : (a b : ℕ) (t : Bool) → a < 2 ^ 63 → suc b < 2 ^ 63 → mag (cond t (negsuc (suc b - suc a)) (pos (a - suc b))) < 2 ^ 63
-difference-mag a b true h l = omega arith
-difference-mag a b false h l = omega arith
-
-pub difference-fits : (a b : ℕ) → a < 2 ^ 63 → b < 2 ^ 63 → SFits w64 (pos a -ℤ pos b)
-difference-fits a zero h l = record { sfits = omega arith }
-difference-fits a (suc b) h l = record { sfits = difference-mag a b (ltb a (suc b)) h l }

@@ -9,8 +9,7 @@ use lib.Signed.{mag, leZ}
 use mir.Syntax.{w64}
 use mir.Val.{SFits, toZ, ofZ}
 use mir.Facts.{toZ-ofZ}
-use Rattle.signed.proofs.Order.{difference-fits}
-use Rattle.signed.proofs.Sizes.{word}
+use Rattle.signed.proofs.Sizes.{difference-fits, word}
 use Rattle.level.specs.Logarithm.{lev}
 use Rattle.percent.specs.Inner.{passes}
 use Rattle.percent.specs.Percent.{whole, notAbove}
