@@ -1,12 +1,12 @@
 /* The driver of every program: reads a rate code (1 byte), the number of rounds (2 bytes), the
- * length of a chunk (2 bytes, 0 for 4096) and samples (2 bytes each, at most 32768) from standard
- * input, numbers little-endian, feeds the samples that many rounds over to a fresh meter, in chunks
- * of that length, and prints it. */
+ * length of a chunk (2 bytes, 0 for 4096), an offset (2 bytes) and samples (2 bytes each, at most
+ * 32768) from standard input, numbers little-endian, feeds the samples that many rounds over to a
+ * fresh meter of that offset, in chunks of that length, and prints it. */
 #include "meter.h"
 
 #include <stdio.h>
 
-enum { HEADER = 5, MOST_SAMPLES = 32768 };
+enum { HEADER = 7, MOST_SAMPLES = 32768 };
 
 static const struct rate rates[] = {
     {694, 49174, 139},
@@ -33,14 +33,14 @@ int main(void)
     size_t length = fread(input, 1, sizeof input, stdin);
     size_t chunk = number_at(input + 3) ? number_at(input + 3) : CHUNK;
     if (length < HEADER || input[0] < 1 || input[0] > 3 || chunk > CHUNK || getchar() != EOF) {
-        fputs("wanted: a rate code, the rounds, a chunk's length and at most 32768 samples\n", stderr);
+        fputs("wanted: a rate code, the rounds, a chunk's length, an offset and at most 32768 samples\n", stderr);
         return 1;
     }
     size_t count = (length - HEADER) / 2;
     for (size_t i = 0; i < count; i++)
         samples[i] = (int16_t)number_at(input + HEADER + 2 * i);
 
-    struct meter *m = meter_open(&rates[input[0] - 1]);
+    struct meter *m = meter_open(&rates[input[0] - 1], (int16_t)number_at(input + 5));
     for (unsigned rounds = number_at(input + 1); rounds > 0; rounds--)
         feed(m, samples, count, chunk);
     meter_print(m);

@@ -12,6 +12,7 @@ static const double hangover_time = 0.2;  /* seconds */
 /* Samples, averages and thresholds are fractions of full scale. */
 struct meter {
     double g; /* smoothing */
+    double offset;
     int hangover;
     long n;
     double sum;
@@ -23,11 +24,12 @@ struct meter {
     int h[THRESHOLDS]; /* hangover counts */
 };
 
-struct meter *meter_open(const struct rate *rate)
+struct meter *meter_open(const struct rate *rate, int16_t offset)
 {
     static struct meter m;
     m = (struct meter){
         .g = exp(-1.0 / (rate->samples_per_second * time_constant)),
+        .offset = offset / full_scale,
         .hangover = (int)ceil(rate->samples_per_second * hangover_time),
     };
     for (int j = 0; j < THRESHOLDS; j++) {
@@ -55,9 +57,10 @@ void meter_take(struct meter *m, const int16_t *samples, size_t count)
     for (size_t i = 0; i < count; i++) {
         double x = samples[i] / full_scale;
         m->n += 1;
+        double distance = x - m->offset;
         m->sum += x;
-        m->squares += x * x;
-        m->p = m->g * m->p + (1.0 - m->g) * fabs(x);
+        m->squares += distance * distance;
+        m->p = m->g * m->p + (1.0 - m->g) * fabs(distance);
         m->q = m->g * m->q + (1.0 - m->g) * m->p;
         count_sample(m);
     }

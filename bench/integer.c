@@ -4,10 +4,10 @@
 #include <inttypes.h>
 #include <stdio.h>
 
-struct meter *meter_open(const struct rate *rate)
+struct meter *meter_open(const struct rate *rate, int16_t offset)
 {
     static struct meter m;
-    m = (struct meter){.rate = *rate};
+    m = (struct meter){.rate = *rate, .offset = offset};
     /* Used up at first, or the meter would count 0.2 s of speech before any came. */
     for (int j = 0; j < THRESHOLDS; j++)
         m.h[j] = rate->i;

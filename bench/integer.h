@@ -11,6 +11,7 @@ enum { SMOOTHING_BITS = 20, UNIT_BITS = 24 };
 /* P and the envelope Q are in units of 2^-24 quantizing interval. */
 struct meter {
     struct rate rate;
+    int16_t offset;
     uint64_t n;
     int64_t s;
     uint64_t sq_high; /* the sum of squares, which a long measurement takes past 64 bits */
@@ -33,10 +34,10 @@ static inline uint64_t smooth(uint64_t k, uint64_t old, uint64_t new)
     return (old * (((uint64_t)1 << SMOOTHING_BITS) - k) + new * k) >> SMOOTHING_BITS;
 }
 
-/* |x|, in int: -32768 has no opposite in 16 bits. */
-static inline uint64_t rectified(int16_t x)
+/* |x - offset|, in int: it reaches 65535. */
+static inline uint64_t rectified(int16_t offset, int16_t x)
 {
-    return (uint64_t)abs(x);
+    return (uint64_t)abs(x - offset);
 }
 
 /* Adds to the sum of squares. */

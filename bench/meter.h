@@ -16,8 +16,8 @@ struct rate {
 
 struct meter;
 
-/* The fresh meter at a rate. */
-struct meter *meter_open(const struct rate *rate);
+/* The fresh meter at a rate and an offset. */
+struct meter *meter_open(const struct rate *rate, int16_t offset);
 
 /* Measures one chunk, of at most CHUNK samples. Called, never inlined, as a host would. */
 __attribute__((noinline)) void meter_take(struct meter *m, const int16_t *samples, size_t count);

@@ -4,7 +4,7 @@
 /* Everything a sample changes except the counts. */
 static inline void step_sums(struct meter *m, int16_t x)
 {
-    uint64_t size = rectified(x);
+    uint64_t size = rectified(m->offset, x);
     m->n += 1;
     m->s += x;
     add_squares(m, size * size);

@@ -53,9 +53,9 @@ struct moving {
     uint64_t q;
 };
 
-static inline void step(struct moving *v, uint64_t k, int16_t x)
+static inline void step(struct moving *v, uint64_t k, int16_t offset, int16_t x)
 {
-    uint64_t size = rectified(x);
+    uint64_t size = rectified(offset, x);
     v->s += x;
     v->sq += size * size;
     v->p = smooth(k, v->p, size << UNIT_BITS);
@@ -64,11 +64,11 @@ static inline void step(struct moving *v, uint64_t k, int16_t x)
 
 /* Steps over samples from index i on until one takes the envelope out of the band. Gives the index
  * of that sample, or the number of samples. */
-static size_t step_inside(struct moving *v, uint64_t k, struct band band, const int16_t *samples,
-                          size_t i, size_t count)
+static size_t step_inside(struct moving *v, uint64_t k, int16_t offset, struct band band,
+                          const int16_t *samples, size_t i, size_t count)
 {
     for (; i < count; i++) {
-        step(v, k, samples[i]);
+        step(v, k, offset, samples[i]);
         if (v->q < band.low || band.high <= v->q)
             break;
     }
@@ -82,11 +82,11 @@ void meter_take(struct meter *m, const int16_t *samples, size_t count)
         return;
     struct indices c = {{0}};
     struct moving v = {m->s, 0, m->p, m->q};
-    step(&v, m->rate.k, samples[0]);
+    step(&v, m->rate.k, m->offset, samples[0]);
     struct band band = around(v.q);
     size_t at = 0;
     while (at < count) {
-        at = step_inside(&v, m->rate.k, band, samples, at + 1, count);
+        at = step_inside(&v, m->rate.k, m->offset, band, samples, at + 1, count);
         struct band next = around(v.q);
         if (band.below < next.below)
             settle(m, &c, band.below, next.below, 0, at);

@@ -1,10 +1,11 @@
 #!/usr/bin/env python3
-"""Writes the input of a speed comparison to standard output: signals.py KIND CODE ROUNDS [CHUNK]
+"""Writes the input of a speed comparison to standard output: signals.py KIND CODE ROUNDS [CHUNK [OFFSET]]
 
 KIND is a key of KINDS below, CODE a rate code (1 to 3), ROUNDS how often a program is to feed the
-samples to its meter, CHUNK the length of a chunk, 4096 where it is left out. How many samples
-change the band of the envelope, which is what decides the cost of counting by runs, is told on
-standard error. The same arguments always give the same bytes.
+samples to its meter, CHUNK the length of a chunk, 4096 where it is left out, OFFSET the offset that
+the meter is opened with, 0 where it is left out. How many samples change the band of the envelope,
+which is what decides the cost of counting by runs, is told on standard error. The same arguments
+always give the same bytes.
 """
 import math
 import random
@@ -86,20 +87,20 @@ def extremes(chance, _speed):
 KINDS = {"speech": speech, "noise": noise, "silence": silence, "worst": worst, "extremes": extremes}
 
 
-def bands(samples, k):
+def bands(samples, k, offset):
     """For each sample, how many thresholds the envelope after it has reached."""
     p = q = 0
     for x in samples:
-        p = (p * (2**20 - k) + abs(x) * 2**24 * k) >> 20
+        p = (p * (2**20 - k) + abs(x - offset) * 2**24 * k) >> 20
         q = (q * (2**20 - k) + p * k) >> 20
         yield min(15, (q >> 24).bit_length())
 
 
-def changes(samples, k):
+def changes(samples, k, offset):
     """How many samples change the band in a first round and in a second."""
     band = 0
     changed = []
-    for i, after in enumerate(bands(samples * 2, k)):
+    for i, after in enumerate(bands(samples * 2, k, offset)):
         if i % len(samples) == 0:
             changed.append(0)
         changed[-1] += after != band
@@ -110,9 +111,10 @@ def changes(samples, k):
 def main():
     kind, code, rounds = sys.argv[1], int(sys.argv[2]), int(sys.argv[3])
     chunk = int(sys.argv[4]) if len(sys.argv) > 4 else 4096
+    offset = int(sys.argv[5]) if len(sys.argv) > 5 else 0
     samples = KINDS[kind](random.Random(56), SPEEDS[code])
-    sys.stdout.buffer.write(struct.pack(f"<BHH{SAMPLES}h", code, rounds, chunk, *samples))
-    first, second = (100 * count / SAMPLES for count in changes(samples, SMOOTHINGS[code]))
+    sys.stdout.buffer.write(struct.pack(f"<BHHh{SAMPLES}h", code, rounds, chunk, offset, *samples))
+    first, second = (100 * count / SAMPLES for count in changes(samples, SMOOTHINGS[code], offset))
     print(f"{first:.3f} % of the samples change the band in the first round, {second:.3f} % in the next", file=sys.stderr)
 
 

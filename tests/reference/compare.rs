@@ -30,9 +30,9 @@ impl Comparison {
     /// Compares one record's line.
     fn line(&mut self, k: usize, record: &Record, line: &str) {
         let shown = self.shown.take();
-        if let Record::Open(code) = record {
+        if let Record::Open(code, offset) = record {
             let rate = rate(u32::from(*code));
-            self.exact = rate.map(|rate| Exact::open(rate, &thresholds(rate)));
+            self.exact = rate.map(|rate| Exact::open(rate, *offset, &thresholds(rate)));
             self.tally.holds(
                 &format!("record {k}: {line}"),
                 rate.is_some() && line == "open 0",
@@ -70,14 +70,16 @@ fn call(tally: &mut Tally, name: &str, accepted: bool, line: &str, word: &str) {
     tally.holds(&format!("{name} acceptance"), agrees);
 }
 
-/// The clauses of demand 3 about a meter, with its total and its sum of squares; gives the meter
+/// The clauses of demand 3 about a meter, with its offset, its total and its sums; gives the meter
 /// where it is one to report on.
 fn show(tally: &mut Tally, name: &str, exact: &Exact, line: &str) -> Option<Meter> {
     let meter = printed::meter(line);
-    tally.holds(&format!("{name} 37 values"), meter.is_some());
+    tally.holds(&format!("{name} 38 values"), meter.is_some());
     let meter = meter?;
     let clauses = [
+        ("offset", meter.offset == exact.offset),
         ("n", meter.n == exact.y),
+        ("s", meter.s == exact.s),
         ("sq", meter.sq == exact.sq),
         ("Q against q", exact.envelope(meter.Q)),
         ("a_j against c_j", exact.counts_from_above(&meter.a)),

@@ -1,33 +1,38 @@
 //! Wrong answers to lists of calls and on meters handed in, to see that the check of demand 3
 //! refuses each of them.
 
+mod offsets;
+
 use crate::answer;
 use crate::compare::agrees;
+use crate::generate::signals::around;
 use crate::measurement;
 use crate::meter::{Meter, Report};
 use crate::records::Record;
-use crate::replay::{replay, report_line, Player};
+use crate::replay::{meter_line, replay, report_line, Player};
 use crate::tally::Tally;
+use std::iter;
 
-/// A list of calls at code 1: an opening, a chunk, a show and a report.
+/// A list of calls at code 1: an opening, chunks and blocks, a show and a report.
 struct List {
     script: Vec<u8>,
-    /// The lines before the report's.
+    /// The lines before the show's.
     lines: String,
     meter: Meter,
 }
 
 impl List {
-    /// The list of some samples.
-    fn new(samples: &[i16]) -> List {
+    /// The list of some calls at an offset.
+    fn new(offset: i16, calls: &[Record]) -> List {
         let mut player = Player::new();
         let (mut script, mut lines) = (Vec::new(), String::new());
-        let chunk = Record::Chunk(samples.to_vec());
-        for record in [Record::Open(1), chunk, Record::Show] {
+        let opening = Record::Open(1, offset);
+        for record in iter::once(&opening).chain(calls) {
             record.write(&mut script);
-            lines += &player.answer(&record);
+            lines += &player.answer(record);
             lines += "\n";
         }
+        Record::Show.write(&mut script);
         Record::Report.write(&mut script);
         let meter = player.meter;
         List {
@@ -37,13 +42,30 @@ impl List {
         }
     }
 
-    /// Checks that with this line for the report these clauses of demand 3 fail, and no other.
-    fn breaks(&self, tally: &mut Tally, line: &str, clauses: &[&str]) {
-        let output = format!("{}{line}\n", self.lines);
-        let agreed = agrees(&self.script, &output).expect("no record is bad");
+    /// The list of one chunk at an offset.
+    fn of_chunk(offset: i16, samples: &[i16]) -> List {
+        List::new(offset, &[Record::Chunk(samples.to_vec())])
+    }
+
+    /// Checks that with these lines these clauses of demand 3 fail, and no other.
+    fn fails(&self, tally: &mut Tally, name: &str, lines: &str, clauses: &[&str]) {
+        let agreed = agrees(&self.script, lines).expect("no record is bad");
         let names = agreed.failed().iter();
         let broken: Vec<&str> = names.filter_map(|name| name.rsplit(": ").next()).collect();
-        tally.equal(line, &broken[..], clauses);
+        tally.equal(name, &broken[..], clauses);
+    }
+
+    /// The same, with this line for the report.
+    fn breaks(&self, tally: &mut Tally, line: &str, clauses: &[&str]) {
+        let lines = format!("{}{}\n{line}\n", self.lines, meter_line(&self.meter));
+        self.fails(tally, line, &lines, clauses);
+    }
+
+    /// The same, with this meter shown and its own report.
+    fn breaks_showing(&self, tally: &mut Tally, name: &str, meter: &Meter, clauses: &[&str]) {
+        let (shown, reported) = (meter_line(meter), report_line(&meter.report()));
+        let lines = format!("{}{shown}\n{reported}\n", self.lines);
+        self.fails(tally, name, &lines, clauses);
     }
 }
 
@@ -60,9 +82,11 @@ pub fn doctored(tally: &mut Tally) {
     percentages_at_ends(tally);
     lines(tally);
     totals(tally);
+    offsets::offsets(tally);
 }
 
 /// A list for each answer, on which any other breaks two clauses: the right one's and its own.
+/// Around any offset they are the same.
 fn numbers(tally: &mut Tally) {
     let rows = [
         (0, "0 just where a crossing is", hum_and_shout()),
@@ -73,20 +97,22 @@ fn numbers(tally: &mut Tally) {
         (16, "16 just where d_0 > 0, no crossing", vec![32767]),
     ];
     for (right, due, samples) in &rows {
-        let list = List::new(samples);
-        list.breaks(tally, &report_line(&list.meter.report()), &[]);
-        list.breaks(tally, "report 2", &[due]);
-        for (wrong, own, _) in rows[1..].iter().filter(|row| row.0 != *right) {
-            let mut clauses = [*due, *own];
-            clauses.sort();
-            list.breaks(tally, &format!("report {wrong}"), &clauses);
+        for offset in [0, -1, 32767] {
+            let list = List::of_chunk(offset, &around(offset, samples));
+            list.breaks(tally, &report_line(&list.meter.report()), &[]);
+            list.breaks(tally, "report 2", &[due]);
+            for (wrong, own, _) in rows[1..].iter().filter(|row| row.0 != *right) {
+                let mut clauses = [*due, *own];
+                clauses.sort();
+                list.breaks(tally, &format!("report {wrong}"), &clauses);
+            }
         }
     }
 }
 
 /// The report at the other crossing, and reports with one thing off.
 fn reports(tally: &mut Tally) {
-    let list = List::new(&hum_and_shout());
+    let list = List::of_chunk(0, &hum_and_shout());
     let [lowest, other] = [2, 4].map(|j| list.meter.report_at(j).expect("a crossing at j"));
     let with = |change: &dyn Fn(&mut Report)| {
         let mut report = lowest.clone();
@@ -115,7 +141,7 @@ fn reports(tally: &mut Tally) {
 
 /// Reports whose T is off: one less and one more, none, the least that F allows, past the whole.
 fn percentages(tally: &mut Tally) {
-    let list = List::new(&hum_and_shout());
+    let list = List::of_chunk(0, &hum_and_shout());
     let right = list.meter.report().expect("a crossing");
     let rows = [
         (right.T - 1, &["no larger T"][..]),
@@ -138,7 +164,7 @@ fn active(n: u64, a: u64) -> Meter {
         n,
         sq: 64 * u128::from(a),
         a: [a; 15],
-        ..Meter::open(2).0
+        ..Meter::open(2, 0).0
     }
 }
 
@@ -170,7 +196,7 @@ fn percentages_at_ends(tally: &mut Tally) {
 
 /// Lines with more than a refusal on them, and with less or more than a whole report.
 fn lines(tally: &mut Tally) {
-    let list = List::new(&hum_and_shout());
+    let list = List::of_chunk(0, &hum_and_shout());
     let whole = report_line(&list.meter.report());
     let (less, _) = whole.rsplit_once(' ').expect("more than a word");
     let more = format!("{whole} 0");
@@ -179,7 +205,8 @@ fn lines(tally: &mut Tally) {
     }
 }
 
-/// A measurement whose report has another n than the meter shown after it, which is not read back.
+/// A measurement whose report has another n than the meter shown after it, and one whose meter has
+/// an offset, which are not read back.
 fn totals(tally: &mut Tally) {
     let samples = hum_and_shout();
     let mut script = Vec::new();
@@ -189,4 +216,6 @@ fn totals(tally: &mut Tally) {
     let read = |printed: &str| measurement::read(&mut printed.lines(), 1, samples.len()).is_some();
     tally.equal("a measurement read back", read(&right), true);
     tally.equal("one with another n", read(&wrong), false);
+    let moved = right.replace("meter 1 0 ", "meter 1 1 ");
+    tally.equal("one with an offset", read(&moved), false);
 }

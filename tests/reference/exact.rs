@@ -12,14 +12,17 @@ struct Count {
     v: u64,
 }
 
-/// E (the customer's scope, "One sample"), with sq over the samples it took ("The report").
+/// E (the customer's scope, "One sample"; the customer's request L2), with sq ("The report") and s
+/// over the samples it took.
 pub struct Exact {
     rate: &'static Rate,
+    pub offset: i16,
     pub y: u64,
     /// The numerator of p over 2^(20 y).
     p: Natural,
     /// The numerator of q over 2^(20 (y + 1)).
     q: Natural,
+    pub s: i64,
     pub sq: u128,
     counts: Vec<Count>,
 }
@@ -33,8 +36,9 @@ pub fn thresholds(rate: &Rate) -> Vec<u64> {
 }
 
 impl Exact {
-    /// E before any call, with the thresholds to count at (the customer's scope, "One sample").
-    pub fn open(rate: &'static Rate, thresholds: &[u64]) -> Exact {
+    /// E before any call, with the thresholds to count at (the customer's scope, "One sample"; the
+    /// customer's request L2).
+    pub fn open(rate: &'static Rate, offset: i16, thresholds: &[u64]) -> Exact {
         let zero = Natural::from(0);
         let counts = thresholds
             .iter()
@@ -42,9 +46,11 @@ impl Exact {
             .collect();
         Exact {
             rate,
+            offset,
             y: 0,
             p: zero.clone(),
             q: zero,
+            s: 0,
             sq: 0,
             counts,
         }
@@ -83,6 +89,11 @@ impl Exact {
         }
     }
 
+    /// x - o, which E works on wherever it read x (the customer's request L2).
+    fn without_offset(&self, x: i16) -> i64 {
+        i64::from(x) - i64::from(self.offset)
+    }
+
     /// One sample (the customer's scope, "One sample").
     ///
     /// The fractions keep their denominators: p goes from 2^(20 (y - 1)) to 2^(20 y), and q
@@ -90,10 +101,11 @@ impl Exact {
     fn sample(&mut self, x: i16) {
         let K = self.rate.K;
         let kept = (1 << 20) - K;
-        let magnitude = u64::from(x.unsigned_abs());
-        self.sq += u128::from(magnitude) * u128::from(magnitude);
+        let magnitude = u128::from(self.without_offset(x).unsigned_abs());
+        self.s += i64::from(x);
+        self.sq += magnitude * magnitude;
         self.y += 1;
-        let input = Natural::from(u128::from(magnitude) << 24).times(K);
+        let input = Natural::from(magnitude << 24).times(K);
         self.p = self.p.times(kept).add(&input.shift_left(20 * (self.y - 1)));
         self.q = self.q.times(kept).add(&self.p.times(K));
         let denominator = 20 * (self.y + 1);

@@ -1,5 +1,7 @@
 //! The worked figures, and a few further ones; wrong answers that the check of demand 3 refuses.
 
+mod offsets;
+
 use crate::block;
 use crate::doctored::doctored;
 use crate::level::lev;
@@ -23,6 +25,7 @@ pub fn figures() -> bool {
     percentages(&mut tally);
     percentage_never_falls(&mut tally);
     percentage_is_near(&mut tally);
+    offsets::offsets(&mut tally);
     doctored(&mut tally);
     tally.finish()
 }
@@ -68,14 +71,14 @@ fn levels(tally: &mut Tally) {
 
 /// The rows of one sample (the customer's scope, "Worked figures").
 fn samples(tally: &mut Tally) {
-    let (meter, r) = Meter::open(2).0.chunk(&[32767]);
+    let (meter, r) = Meter::open(2, 0).0.chunk(&[32767]);
     tally.equal(
         "32767 at code 2",
         (r, meter.P, meter.Q),
         (0, 2285825920, 9504509),
     );
     tally.equal("32767 at code 2, report", meter.report(), Err(14));
-    let (meter, r) = Meter::open(2).0.chunk(&[-1]);
+    let (meter, r) = Meter::open(2, 0).0.chunk(&[-1]);
     tally.equal("-1 at code 2", (r, meter.P, meter.Q), (0, 69760, 290));
 }
 
@@ -128,7 +131,7 @@ fn bounds(tally: &mut Tally) {
     let full = handed_in(1 << 48, 0, &[]);
     tally.equal("n 2^48, one sample", full.chunk(&[0]).1, 11);
     tally.equal("n 2^48, empty chunk", full.chunk(&[]).1, 0);
-    let fresh = Meter::open(2).0;
+    let fresh = Meter::open(2, 0).0;
     tally.equal("chunk of 4096", fresh.chunk(&[0; 4096]).1, 0);
     tally.equal("chunk of 4097", fresh.chunk(&[0; 4097]).1, 3);
 }
@@ -171,7 +174,7 @@ fn program(tally: &mut Tally) {
 
 /// A pair of samples that brings Q to a threshold exactly.
 fn exact_threshold(tally: &mut Tally) {
-    let (meter, r) = Meter::open(1).0.chunk(&[9126, 11705]);
+    let (meter, r) = Meter::open(1, 0).0.chunk(&[9126, 11705]);
     tally.equal(
         "9126, 11705 at code 1",
         (r, meter.P, meter.Q),

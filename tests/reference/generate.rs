@@ -7,7 +7,7 @@ mod lists;
 pub mod random;
 mod recording;
 mod script;
-mod signals;
+pub mod signals;
 
 use crate::records::{write_bytes, Record};
 use random::Random;

@@ -141,6 +141,7 @@ fn run(arguments: &[&str]) -> io::Result<bool> {
             "a script opens with a named code and has no bad record",
         ),
         ["samples"] => lines(replay::accepted_samples(&input()?), BAD_RECORD),
+        ["largest"] => lines(replay::largest_size(&input()?), BAD_RECORD),
         ["agrees", script, printed] => {
             let script = std::fs::read(script)?;
             counted(compare::agrees(&script, &std::fs::read_to_string(printed)?))
@@ -152,8 +153,8 @@ fn run(arguments: &[&str]) -> io::Result<bool> {
         ["speech", arguments @ ..] => speech(arguments),
         _ => error(
             "replay | report | host | generate KIND SEED COUNT | blocks CODE | figures | exact | \
-             counts | samples | agrees SCRIPT OUTPUT | clause11 script | clause11 check OUTPUT | \
-             speech ...",
+             counts | samples | largest | agrees SCRIPT OUTPUT | clause11 script | \
+             clause11 check OUTPUT | speech ...",
         ),
     }
 }

@@ -1,4 +1,4 @@
-//! One whole measurement: an opening, its samples in chunks, a report and a show.
+//! One whole measurement: an opening with no offset, its samples in chunks, a report and a show.
 
 use crate::meter::{Meter, Report, MOST_IN_CHUNK};
 use crate::printed;
@@ -46,7 +46,7 @@ fn levels(report: Report) -> Levels {
 
 /// Writes the records of a measurement.
 pub fn write(code: u8, samples: &[i16], out: &mut Vec<u8>) {
-    Record::Open(code).write(out);
+    Record::Open(code, 0).write(out);
     for chunk in samples.chunks(MOST_IN_CHUNK) {
         Record::Chunk(chunk.to_vec()).write(out);
     }
@@ -57,7 +57,8 @@ pub fn write(code: u8, samples: &[i16], out: &mut Vec<u8>) {
 /// Reads the next lines as those of a measurement of so many samples.
 ///
 /// None where one is missing, where the opening or a chunk was refused, where the meter shown did
-/// not take those samples at that code, or where the report's totals are not that meter's.
+/// not take those samples at that code with no offset, or where the report's totals are not that
+/// meter's.
 pub fn read<'a>(
     lines: &mut impl Iterator<Item = &'a str>,
     code: u8,
@@ -73,7 +74,8 @@ pub fn read<'a>(
     }
     let answer = printed::report(lines.next()?)?;
     let meter = printed::meter(lines.next()?)?;
-    let whole = meter.code == code && meter.n == length as u64 && totals_of(&answer, &meter);
+    let opened = (meter.code, meter.offset) == (code, 0);
+    let whole = opened && meter.n == length as u64 && totals_of(&answer, &meter);
     let report = answer.map(levels);
     whole.then_some(Measurement { report, meter })
 }

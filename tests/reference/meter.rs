@@ -14,10 +14,11 @@ pub const MOST_IN_CHUNK: usize = 4096;
 /// The margin in steps (the customer's scope, "The report").
 pub const M: i64 = 21635;
 
-/// What a meter holds (the customer's scope, "One sample").
-#[derive(Clone)]
+/// What a meter holds (the customer's scope, "One sample"; the customer's request L2).
+#[derive(Clone, Debug, PartialEq)]
 pub struct Meter {
     pub code: u8,
+    pub offset: i16,
     pub n: u64,
     pub s: i64,
     pub sq: u128,
@@ -58,6 +59,7 @@ impl Meter {
     pub fn zero() -> Meter {
         Meter {
             code: 0,
+            offset: 0,
             n: 0,
             s: 0,
             sq: 0,
@@ -68,12 +70,14 @@ impl Meter {
         }
     }
 
-    /// Opening: the fresh meter, or refusal 1 (the customer's scope, "One sample", "Why a call is refused").
-    pub fn open(code: u8) -> (Meter, u32) {
+    /// Opening: the fresh meter, which keeps the offset, or refusal 1 (the customer's scope, "One
+    /// sample", "Why a call is refused"; the customer's request L2).
+    pub fn open(code: u8, offset: i16) -> (Meter, u32) {
         match rate(u32::from(code)) {
             Some(rate) => (
                 Meter {
                     code,
+                    offset,
                     h: [rate.I; 15],
                     ..Meter::zero()
                 },
@@ -133,7 +137,8 @@ impl Meter {
         }
     }
 
-    /// Refusal 2: no measurement could hold this (the customer's scope, "Why a call is refused").
+    /// Refusal 2: no measurement could hold this; any offset could be held (the customer's scope,
+    /// "Why a call is refused"; the customer's request L2).
     pub fn refusal_2(&self) -> bool {
         let Some(rate) = rate(u32::from(self.code)) else {
             return true;
@@ -141,9 +146,9 @@ impl Meter {
         let n = u128::from(self.n);
         self.n > MOST_SAMPLES
             || u128::from(self.s.unsigned_abs()) > n << 15
-            || self.sq > n << 30
-            || self.P > 1 << 39
-            || self.Q > 1 << 39
+            || self.sq > n << 32
+            || self.P > 1 << 40
+            || self.Q > 1 << 40
             || self.h.iter().any(|&h| h > rate.I)
             || self.a.iter().any(|&a| a > self.n)
             || (1..15).any(|j| self.a[j] > self.a[j - 1])
@@ -165,14 +170,20 @@ impl Meter {
         meter
     }
 
-    /// One sample (the customer's scope, "One sample").
+    /// |x - o|, which is up to 65535 (the customer's request L2).
+    pub fn size(&self, x: i16) -> u16 {
+        x.abs_diff(self.offset)
+    }
+
+    /// One sample: s takes it as it is, all else its size (the customer's scope, "One sample"; the
+    /// customer's request L2).
     fn sample(&mut self, rate: &Rate, x: i16) {
         let K = u128::from(rate.K);
+        let size = u128::from(self.size(x));
         self.n += 1;
         self.s += i64::from(x);
-        self.sq += u128::from(x.unsigned_abs()) * u128::from(x.unsigned_abs());
-        let input = u128::from(x.unsigned_abs()) << 24;
-        let P = (u128::from(self.P) * ((1 << 20) - K) + input * K) >> 20;
+        self.sq += size * size;
+        let P = (u128::from(self.P) * ((1 << 20) - K) + (size << 24) * K) >> 20;
         let Q = (u128::from(self.Q) * ((1 << 20) - K) + P * K) >> 20;
         self.P = P as u64;
         self.Q = Q as u64;

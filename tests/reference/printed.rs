@@ -41,21 +41,22 @@ fn fifteen(values: &[i128]) -> Option<[u64; 15]> {
     numbers?.try_into().ok()
 }
 
-/// The meter of a show's line: 37 values, all but s unsigned.
+/// The meter of a show's line: 38 values, all but the offset and s unsigned.
 pub fn meter(line: &str) -> Option<Meter> {
     let values = numbers(line, "meter")?;
-    if values.len() != 37 {
+    if values.len() != 38 {
         return None;
     }
     let word = |i: usize| u64::try_from(values[i]).ok();
     Some(Meter {
         code: u8::try_from(values[0]).ok()?,
-        n: word(1)?,
-        s: i64::try_from(values[2]).ok()?,
-        sq: two_words(values[3], values[4])?,
-        P: word(5)?,
-        Q: word(6)?,
-        a: fifteen(&values[7..22])?,
-        h: fifteen(&values[22..])?,
+        offset: i16::try_from(values[1]).ok()?,
+        n: word(2)?,
+        s: i64::try_from(values[3]).ok()?,
+        sq: two_words(values[4], values[5])?,
+        P: word(6)?,
+        Q: word(7)?,
+        a: fifteen(&values[8..23])?,
+        h: fifteen(&values[23..])?,
     })
 }

@@ -4,7 +4,8 @@ use crate::meter::Meter;
 
 /// One record.
 pub enum Record {
-    Open(u8),
+    /// A code and an offset.
+    Open(u8, i16),
     Chunk(Vec<i16>),
     Block(Vec<u8>),
     Report,
@@ -73,11 +74,14 @@ impl<'a> Reader<'a> {
         Some(self.take(length as usize)?.to_vec())
     }
 
+    /// A sample, or an offset, which is any sample value.
+    fn sample(&mut self) -> Option<i16> {
+        Some(self.number(2)? as u16 as i16)
+    }
+
     /// So many samples.
     fn samples(&mut self, count: u64) -> Option<Vec<i16>> {
-        (0..count)
-            .map(|_| Some(self.number(2)? as u16 as i16))
-            .collect()
+        (0..count).map(|_| self.sample()).collect()
     }
 
     /// A count of two bytes and that many samples.
@@ -86,9 +90,10 @@ impl<'a> Reader<'a> {
         self.samples(count)
     }
 
-    /// The 37 values of a meter.
+    /// The 38 values of a meter.
     fn meter(&mut self) -> Option<Meter> {
         let code = self.number(1)? as u8;
+        let offset = self.sample()?;
         let n = self.number(8)?;
         let s = self.number(8)? as i64;
         let sq = self.two_words()?;
@@ -98,6 +103,7 @@ impl<'a> Reader<'a> {
         let h = self.fifteen()?;
         Some(Meter {
             code,
+            offset,
             n,
             s,
             sq,
@@ -111,7 +117,7 @@ impl<'a> Reader<'a> {
     /// One record; None also where the first byte is unknown.
     fn record(&mut self) -> Option<Record> {
         match self.number(1)? {
-            1 => Some(Record::Open(self.number(1)? as u8)),
+            1 => Some(Record::Open(self.number(1)? as u8, self.sample()?)),
             2 => Some(Record::Chunk(self.chunk()?)),
             3 => Some(Record::Block(self.bytes()?)),
             4 => Some(Record::Report),
@@ -167,9 +173,10 @@ fn write_words(number: u128, out: &mut Vec<u8>) {
     out.extend(low.to_le_bytes());
 }
 
-/// Writes the 37 values of a meter.
+/// Writes the 38 values of a meter.
 fn write_meter(meter: &Meter, out: &mut Vec<u8>) {
     out.push(meter.code);
+    out.extend(meter.offset.to_le_bytes());
     out.extend(meter.n.to_le_bytes());
     out.extend(meter.s.to_le_bytes());
     write_words(meter.sq, out);
@@ -182,7 +189,10 @@ impl Record {
     /// Writes the record.
     pub fn write(&self, out: &mut Vec<u8>) {
         match self {
-            Record::Open(code) => out.extend([1, *code]),
+            Record::Open(code, offset) => {
+                out.extend([1, *code]);
+                out.extend(offset.to_le_bytes());
+            }
             Record::Chunk(samples) => {
                 out.push(2);
                 out.extend((samples.len() as u16).to_le_bytes());

@@ -21,7 +21,9 @@ impl Player {
     /// Plays one record and gives its line.
     pub fn answer(&mut self, record: &Record) -> String {
         match record {
-            Record::Open(code) => format!("open {}", self.keep(Meter::open(*code))),
+            Record::Open(code, offset) => {
+                format!("open {}", self.keep(Meter::open(*code, *offset)))
+            }
             Record::Chunk(samples) => format!("chunk {}", self.keep(self.meter.chunk(samples))),
             Record::Block(bytes) => format!("block {}", self.keep(self.meter.block(bytes))),
             Record::Report => report_line(&self.meter.report()),
@@ -67,10 +69,13 @@ pub fn report_line(answer: &Result<Report, u32>) -> String {
     )
 }
 
-/// The line of a show: the 37 values.
-fn meter_line(meter: &Meter) -> String {
+/// The line of a show: the 38 values.
+pub fn meter_line(meter: &Meter) -> String {
     let (high, low) = words(meter.sq);
-    let mut line = format!("meter {} {} {} {high} {low}", meter.code, meter.n, meter.s);
+    let mut line = format!(
+        "meter {} {} {} {} {high} {low}",
+        meter.code, meter.offset, meter.n, meter.s
+    );
     for number in [meter.P, meter.Q].iter().chain(&meter.a).chain(&meter.h) {
         line += &format!(" {number}");
     }
@@ -92,19 +97,36 @@ pub fn replay(bytes: &[u8]) -> String {
     lines
 }
 
-/// A line with the total length of the accepted calls; None where the script has a bad record.
+/// The sizes of the samples that the accepted calls took; None where the script has a bad record.
 ///
 /// n grows by a call's samples just where the call is accepted (the customer's scope, "One sample").
-pub fn accepted_samples(script: &[u8]) -> Option<String> {
+fn sizes_taken(script: &[u8]) -> Option<Vec<u16>> {
     let (records, bad) = read(script);
     let mut player = Player::new();
-    let mut total = 0;
+    let mut sizes = Vec::new();
     for record in &records {
         let n = player.meter.n;
         player.answer(record);
-        if let Record::Chunk(_) | Record::Block(_) = record {
-            total += player.meter.n - n;
+        let samples = match record {
+            Record::Chunk(samples) => samples.clone(),
+            Record::Block(bytes) => block::samples(bytes),
+            _ => continue,
+        };
+        if player.meter.n > n {
+            sizes.extend(samples.iter().map(|&x| player.meter.size(x)));
         }
     }
-    (!bad).then(|| format!("{total}\n"))
+    (!bad).then_some(sizes)
+}
+
+/// A line with the total length of the accepted calls; None where the script has a bad record.
+pub fn accepted_samples(script: &[u8]) -> Option<String> {
+    Some(format!("{}\n", sizes_taken(script)?.len()))
+}
+
+/// A line with the largest |x - o| that an accepted call took, 0 where none took any; None where
+/// the script has a bad record.
+pub fn largest_size(script: &[u8]) -> Option<String> {
+    let largest = sizes_taken(script)?.into_iter().max().unwrap_or(0);
+    Some(format!("{largest}\n"))
 }

@@ -11,8 +11,9 @@ pub const RATE: &Rate = &RATES[0];
 /// What it prints for an input: the refused blocks, then the measurement.
 ///
 /// A short last block counts as one and is handed on as it is (the customer's scope, "Worked figures").
+/// The offset is 0 (the customer's request L2).
 pub fn report(input: &[u8]) -> String {
-    let (mut meter, _) = Meter::open(RATE.code);
+    let (mut meter, _) = Meter::open(RATE.code, 0);
     let mut lines = String::new();
     for (i, bytes) in input.chunks(block::LENGTH).enumerate() {
         let (next, r) = meter.block(bytes);

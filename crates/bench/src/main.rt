@@ -1,19 +1,20 @@
 // The meter's side of the speed comparison. Standard input holds a rate code of one byte, a number of
-// rounds of two, a chunk's length of two (0 stands for 4096), and then at most 32768 samples, two bytes
-// each: a meter opened at that code takes the samples so many times over, in chunks of that length, and
-// its values are printed.
+// rounds of two, a chunk's length of two (0 stands for 4096), an offset of two, and then at most 32768
+// samples, two bytes each: a meter opened at that code and offset takes the samples so many times over, in
+// chunks of that length, and its values are printed. Where less than these seven bytes come, the meter is
+// the one of all zeros.
 ghost use Prim.Native.Nat.{_<_};
 use input::Streams;
 use meter::Meter;
 use setting::Setting;
 
 fn main() {
-    let mut bytes = [0u8; 65541];
+    let mut bytes = [0u8; 65543];
     let mut lines = [0u8; 1024];
-    let streams = Streams::new().ready(&mut bytes, &mut lines, 65541);
+    let streams = Streams::new().ready(&mut bytes, &mut lines, 65543);
     let source = streams.source;
     let mut line = [0u8; 1024];
-    let used = print::meter(&mut line, 0, measured(input::ahead(&bytes, source, 65541)));
+    let used = print::meter(&mut line, 0, measured(input::ahead(&bytes, source, 65543)));
     streams
         .put(&mut lines, print::filled(&line, used))
         .closed(&lines, b"bench");
@@ -21,16 +22,19 @@ fn main() {
 
 // The meter after an input.
 fn measured(held: &[u8]) -> Meter {
-    let fresh = Meter::open(Setting {
-        code: block::one_byte(held, 0) as u32,
-    });
-    let mut samples = [0i16; 32768];
-    if held.len() < 5 {
-        return fresh.meter;
+    if held.len() < 7 {
+        return Meter::open(Setting { code: 0, offset: 0 }).meter;
     }
-    let part = &held[5..];
+    let mut offset = [0i16; 1];
+    block::decode(&held[5..7], &mut offset);
+    let part = &held[7..];
+    let mut samples = [0i16; 32768];
     block::decode(part, &mut samples);
     let count = block::least(part.len() / 2, 32768);
+    let fresh = Meter::open(Setting {
+        code: block::one_byte(held, 0) as u32,
+        offset: offset[0],
+    });
     repeated(
         fresh.meter,
         block::two_bytes(held, 1),

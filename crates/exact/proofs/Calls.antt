@@ -9,6 +9,8 @@ use borrow.Author.Tests.{ltb-false, le-ltb, le-leb, leb-true, eqb-true, eq-eqb, 
 use lib.Dec.{T, eqb, leb}
 use lib.IntN.{ℤ}
 use lib.ListN.{length, getD}
+use mir.Syntax.{w16}
+use mir.Val.{SFits}
 use Rattle.refusal.specs.First.{NoneApplies}
 use Rattle.refusal.proofs.Laws.{both}
 use Rattle.rate.specs.Rates.{rowOf, isNamed}
@@ -26,10 +28,10 @@ use Rattle.meter.specs.Refusals.{unnamedCode, longChunk, wrongPlace, tooMany, o
 use Rattle.meter.specs.Calls.{fresh, countingOf, afterSamples, openCall, chunkCall, blockCall}
 use Rattle.meter.proofs.Laws.{open-given, chunk-given, block-given, opened}
 use Rattle.meter.proofs.Possible.{Possible, passes}
-use Rattle.exact.specs.Calls.{Call, chunk, block, AllSamples, Typed, broughtBy}
+use Rattle.exact.specs.Calls.{TypedSetting, Call, chunk, block, AllSamples, Typed, broughtBy}
 use Rattle.exact.specs.Exact.{E, startAt, start, takeAll, accepts, fed, exactly, answersOfE, took}
 use Rattle.exact.specs.Lists.{called, accepted, after, answers, taken}
-use Rattle.exact.proofs.Tied.{by, Tied, same-code, same-K, same-I, total, tied-samples, tied-fresh}
+use Rattle.exact.proofs.Tied.{by, Tied, same-code, same-K, same-I, same-o, total, tied-samples, tied-fresh}
 
 -- ---- the invariant
 
@@ -38,6 +40,8 @@ pub record Good (m : Meter) (e : E) : Type 0 where
   pub K-is : e .K ≡ rowOf (e .code) .k
   pub I-is : e .I ≡ rowOf (e .code) .i
   pub code : m .setting .code ≡ e .code
+  pub offset : m .setting .offset ≡ e .o
+  pub offset-fits : SFits w16 (e .o)
   pub few : m .state .sums .n .0 ≤ mostSamples
   pub tied : Tied (rowOf (e .code) .d) (m .state) e
 
@@ -48,7 +52,10 @@ module _ (m : Meter) (e : E) (g : Good m e) where
 
   by-of : countingOf (m .setting) ≡ by e
   unfolding countingOf kOf iOf
-  by-of = ap₂ (λ (k i : ℕ). record { k = k; i = i }) (ap (λ (c : ℕ). rowOf c .k) (g .code) ∙ sym (g .K-is)) (ap (λ (c : ℕ). rowOf c .i) (g .code) ∙ sym (g .I-is))
+  by-of =
+      ap₂ (λ (k i : ℕ). record { k = k; i = i; offset = m .setting .offset })
+      (ap (λ (c : ℕ). rowOf c .k) (g .code) ∙ sym (g .K-is)) (ap (λ (c : ℕ). rowOf c .i) (g .code) ∙ sym (g .I-is))
+      ∙ ap (λ (o : ℤ). record { k = e .K; i = e .I; offset = o }) (g .offset)
 
   pub good-possible : Possible m
   good-possible =
@@ -150,6 +157,8 @@ module _ (m : Meter) (e : E) (g : Good m e) where
         K-is = same-K xs e ∙ g .K-is ∙ ap (λ (c : ℕ). rowOf c .k) (sym (same-code xs e));
         I-is = same-I xs e ∙ g .I-is ∙ ap (λ (c : ℕ). rowOf c .i) (sym (same-code xs e));
         code = g .code ∙ sym (same-code xs e);
+        offset = g .offset ∙ sym (same-o xs e);
+        offset-fits = subst (SFits w16) (sym (same-o xs e)) (g .offset-fits);
         few = subst (λ (n : ℕ). n ≤ mostSamples) (sym (tied-on .taken ∙ total xs e)) room;
         tied = subst (λ (c : ℕ). Tied (rowOf c .d) (stateAfter (countingOf (m .setting)) (m .state) xs) (takeAll e xs)) (sym (same-code xs e)) tied-on;
       }
@@ -162,7 +171,7 @@ module _ (m : Meter) (e : E) (g : Good m e) where
           (subst (λ (k : ℕ). 1 ≤ k) (sym (g .K-is)) (r .k-low))
           (subst (λ (k : ℕ). k ≤ smoothing) (sym (g .K-is)) (r .k-high))
           (subst (λ (k : ℕ). 2 ^ 21 ≤ rowOf (e .code) .d * k) (sym (g .K-is)) (r .d-rule .not-below))
-          f (g .tied))
+          (g .offset-fits) f (g .tied))
 
 -- ---- a call, and a list of calls
 
@@ -236,17 +245,19 @@ named-by : (c : Setting) → openCall c .number ≡ 0 → isNamed (c .code) ≡ 
 unfolding NoneApplies openRules unnamedCode
 named-by c z = not-false _ (open-given c .0 .accepted .0 z .0)
 
-good-fresh : (c : Setting) → isNamed (c .code) ≡ true → Good (fresh c) (start c)
+good-fresh : (c : Setting) → TypedSetting c → isNamed (c .code) ≡ true → Good (fresh c) (start c)
 unfolding start startAt fresh iOf freshState
-good-fresh c n =
+good-fresh c t n =
     record {
       named = n;
       K-is = refl;
       I-is = refl;
       code = refl;
+      offset = refl;
+      offset-fits = t;
       few = zero-le;
-      tied = tied-fresh (rowOf (c .code) .d) (c .code) (rowOf (c .code) .k) (rowOf (c .code) .i);
+      tied = tied-fresh (rowOf (c .code) .d) (c .code) (rowOf (c .code) .k) (rowOf (c .code) .i) (c .offset);
     }
 
-pub good-open : (c : Setting) → openCall c .number ≡ 0 → Good (openCall c .meter) (start c)
-good-open c z = subst (λ (m : Meter). Good m (start c)) (sym (opened c z)) (good-fresh c (named-by c z))
+pub good-open : (c : Setting) → TypedSetting c → openCall c .number ≡ 0 → Good (openCall c .meter) (start c)
+good-open c t z = subst (λ (m : Meter). Good m (start c)) (sym (opened c z)) (good-fresh c t (named-by c z))

@@ -7,6 +7,7 @@ use Rattle.meter.proofs.Outcome.{answered}
 use Rattle.exact.specs.Demands.{Demand1, Demand2, Claim}
 use Rattle.exact.proofs.Demand3.{demand3}
 use Rattle.exact.proofs.Lost.{nothing-lost, measured}
+use Rattle.exact.proofs.NoOffset.{no-offset}
 
 demand1 : Demand1
 demand1 =
@@ -32,6 +33,7 @@ demand2 =
     record {
       opened = λ c z. subst (Fresh c) (sym (opened c z)) (fresh-fields c);
       measured = measured;
+      no-offset = no-offset;
       reported = answered;
       factor = factor-never-above;
       percent-never-falls = percent-never-smaller;

@@ -3,8 +3,8 @@
 use mathlib.Core.Path.{_≡_, ap, _∙_}
 use Prim.Native.Nat.{ℕ, _+_, _-_, _*_, _^_}
 use native.Mathlib.Omega.{arith}
-use lib.IntN.{ℤ, natAbs}
-use Rattle.exact.specs.Exact.{E, takeOne}
+use lib.IntN.{ℤ}
+use Rattle.exact.specs.Exact.{E, distance, takeOne}
 use Rattle.exact.specs.Fractions.{Recurs}
 use Rattle.exact.proofs.Tied.{power-next}
 
@@ -21,7 +21,7 @@ recurs e x =
     let R = 2 ^ 20 - e .K in
     let W = (2 ^ 20) ^ (e .y) in
     let U = (2 ^ 20) ^ (e .y + 1) in
-    let X = natAbs x * 2 ^ 24 in
+    let X = distance (e .o) x * 2 ^ 24 in
     record {
       p-next = p-same (e .pn) R X (e .K) W (2 ^ 20) ∙ ap (λ (v : ℕ). (e .pn * R * 1 + X * e .K * W) * v) (power-next (e .y));
       q-next = q-same (e .qn) R (e .pn * R + X * W * e .K) (e .K) U (2 ^ 20)

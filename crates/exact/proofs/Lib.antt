@@ -4,4 +4,5 @@ pub mod Demand3
 mod Envelope
 pub mod Fractions
 pub mod Lost
+pub mod NoOffset
 pub mod Tied

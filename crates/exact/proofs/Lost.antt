@@ -6,7 +6,7 @@ use mathlib.Core.Path.{_≡_, refl, sym, _∙_, ap}
 use Prim.Native.Nat.{ℕ, _+_, _*_}
 use native.Mathlib.Omega.{arith}
 use native.Mathlib.Nat.{zero-add}
-use lib.IntN.{ℤ, natAbs, _+ℤ_, +ℤ-idl, +ℤ-idr, +ℤ-assoc}
+use lib.IntN.{ℤ, _+ℤ_, +ℤ-idl, +ℤ-idr, +ℤ-assoc}
 use lib.ListN.{length}
 use Rattle.level.specs.Types.{twoWords}
 use Rattle.level.proofs.Words.{two-of-words}
@@ -15,14 +15,15 @@ use Rattle.setting.specs.Settings.{iOf}
 use Rattle.sample.specs.declared.Counting.{Counting}
 use Rattle.sample.specs.declared.State.{State}
 use Rattle.sample.specs.declared.Sums.{Sums}
+use Rattle.sample.specs.Envelope.{size}
 use Rattle.sample.specs.Sample.{freshState, summed, stateAfterOne, stateAfter}
 use Rattle.meter.specs.declared.Meter.{Meter}
 use Rattle.meter.specs.Calls.{fresh, countingOf, afterSamples}
 use Rattle.meter.proofs.Laws.{opened}
 use Rattle.meter.proofs.Possible.{passes}
-use Rattle.exact.specs.Calls.{Call, Typed, broughtBy}
+use Rattle.exact.specs.Calls.{TypedSetting, Call, Typed, broughtBy}
 use Rattle.exact.specs.Demands.{Opens, meterAfter, exactAfter, takenFrom, sum, sumOfSquares, NothingLost}
-use Rattle.exact.specs.Exact.{E, start, startAt, takeOne, takeAll, accepts, fed, exactly, took}
+use Rattle.exact.specs.Exact.{E, start, startAt, distance, takeOne, takeAll, accepts, fed, exactly, took}
 use Rattle.exact.specs.Lists.{called, accepted, after, taken}
 use Rattle.exact.proofs.Calls.{good-possible, good-after, good-open, handed-meter}
 
@@ -66,40 +67,40 @@ measured c calls z = after-is calls _ ∙ ap (λ (m : Meter). afterSamples m (ta
 
 -- ---- the sums over one list
 
--- m′ has what m has, and the samples xs
-record Grown (xs : List ℤ) (m m′ : Sums) : Type 0 where
+-- m′ has what m has, and the samples xs at offset o
+record Grown (o : ℤ) (xs : List ℤ) (m m′ : Sums) : Type 0 where
   n : m′ .n .0 ≡ m .n .0 + length xs
   s : m′ .s ≡ m .s +ℤ sum xs
-  squares : twoWords (m′ .sq) ≡ twoWords (m .sq) + sumOfSquares xs
+  squares : twoWords (m′ .sq) ≡ twoWords (m .sq) + sumOfSquares o xs
 
-grown : (c : Counting) (xs : List ℤ) (m : State) → Grown xs (m .sums) (stateAfter c m xs .sums)
-unfolding stateAfter stateAfterOne summed sum sumOfSquares
+grown : (c : Counting) (xs : List ℤ) (m : State) → Grown (c .offset) xs (m .sums) (stateAfter c m xs .sums)
+unfolding stateAfter stateAfterOne summed size sum sumOfSquares
 grown c [] m = record { n = omega arith; s = sym (+ℤ-idr (m .sums .s)); squares = omega arith }
 grown c (x ∷ xs) m =
     let g = grown c xs (stateAfterOne c m x) in
     record {
       n = omega (arith, g .n);
       s = g .s ∙ +ℤ-assoc (m .sums .s) x (sum xs);
-      squares = omega (arith, g .squares, two-of-words (twoWords (m .sums .sq) + natAbs x * natAbs x));
+      squares = omega (arith, g .squares, two-of-words (twoWords (m .sums .sq) + size (c .offset) x * size (c .offset) x));
     }
 
-grown-exact : (xs : List ℤ) (e : E) → takeAll e xs .sq ≡ e .sq + sumOfSquares xs
-unfolding takeAll takeOne sumOfSquares
+grown-exact : (xs : List ℤ) (e : E) → takeAll e xs .sq ≡ e .sq + sumOfSquares (e .o) xs
+unfolding takeAll takeOne distance sumOfSquares
 grown-exact [] e = omega arith
 grown-exact (x ∷ xs) e = omega (arith, grown-exact xs (takeOne e x))
 
-pub exact-squares : (c : Setting) (calls : List Call) → exactAfter c calls .sq ≡ sumOfSquares (took (start c) calls)
+pub exact-squares : (c : Setting) (calls : List Call) → exactAfter c calls .sq ≡ sumOfSquares (c .offset) (took (start c) calls)
 unfolding start startAt
 exact-squares c calls = ap (λ (e : E). e .sq) (exactly-is calls (start c)) ∙ grown-exact (took (start c) calls) (start c) ∙ zero-add _
 
-pub nothing-lost : (c : Setting) (calls : List Call) → Opens c → Typed calls → NothingLost c calls
-unfolding freshState
-nothing-lost c calls z f =
+pub nothing-lost : (c : Setting) (calls : List Call) → TypedSetting c → Opens c → Typed calls → NothingLost c calls
+unfolding freshState countingOf
+nothing-lost c calls t z f =
     let e = measured c calls z in
     let g = grown (countingOf c) (takenFrom c calls) (freshState (iOf c)) in
     record {
       total = ap (λ (m : Meter). m .state .sums .n .0) e ∙ g .n ∙ zero-add _;
       sums = ap (λ (m : Meter). m .state .sums .s) e ∙ g .s ∙ +ℤ-idl _;
-      squares = ap (λ (m : Meter). twoWords (m .state .sums .sq)) e ∙ g .squares ∙ ap (λ (k : ℕ). k + sumOfSquares (takenFrom c calls)) (two-of-words 0) ∙ zero-add _;
-      possible = passes _ (good-possible _ _ (good-after calls _ _ f (good-open c z)));
+      squares = ap (λ (m : Meter). twoWords (m .state .sums .sq)) e ∙ g .squares ∙ ap (λ (k : ℕ). k + sumOfSquares (c .offset) (takenFrom c calls)) (two-of-words 0) ∙ zero-add _;
+      possible = passes _ (good-possible _ _ (good-after calls _ _ f (good-open c t z)));
     }

@@ -12,20 +12,22 @@ use lib.Dec.{leb, lit<, lit≤}
 use lib.IntN.{ℤ, natAbs}
 use lib.ListN.{getD, length}
 use lib.Pow.{pow-mono}
+use mir.Syntax.{w16}
+use mir.Val.{SFits}
 use Rattle.level.specs.declared.Samples.{Samples}
 use Rattle.level.specs.Types.{samplesOf, thresholds, activity, twoWords}
 use Rattle.level.proofs.Words.{two-of-words}
 use Rattle.sample.specs.declared.Counting.{Counting}
 use Rattle.sample.specs.declared.State.{State}
 use Rattle.sample.specs.Activity.{counted, hung}
-use Rattle.sample.specs.Envelope.{smooth, rectified, threshold}
+use Rattle.sample.specs.Envelope.{smooth, size, rectified, threshold}
 use Rattle.sample.specs.Sample.{each, freshState, summed, counts, hangovers, stateAfterOne, stateAfter}
 use Rattle.sample.proofs.Activity.{Under, under-refl, under-step, counted-le, hung-le}
 use Rattle.sample.proofs.Envelope.{smooth-le}
 use Rattle.sample.proofs.Places.{each-at}
-use Rattle.sample.proofs.Signs.{small}
+use Rattle.sample.proofs.Signs.{small, size-small}
 use Rattle.signed.proofs.Sizes.{abs-sum}
-use Rattle.exact.specs.Exact.{E, startAt, reaches, countNext, hangoverNext, takeOne, takeAll}
+use Rattle.exact.specs.Exact.{E, startAt, distance, reaches, countNext, hangoverNext, takeOne, takeAll}
 use Rattle.rate.specs.Rates.{Ceiling}
 use Rattle.exact.specs.Calls.{AllSamples}
 use Rattle.exact.specs.Envelope.{envelopeAfter, exactEnvelopeAfter, EnvelopeBound}
@@ -33,24 +35,30 @@ use Rattle.exact.proofs.Envelope.{Near, near-step, near-zero, near-belo
 
 -- what E counts by, as the meter holds it
 abbrev pub by : E → Counting
-by e = record { k = e .K; i = e .I }
+by e = record { k = e .K; i = e .I; offset = e .o }
 
--- ---- what E keeps
+-- ---- what E keeps: what one sample leaves as it was, all of them do
+
+kept : {A : Type 0} (f : E → A) → ((e : E) (x : ℤ) → f (takeOne e x) ≡ f e) → (xs : List ℤ) (e : E) → f (takeAll e xs) ≡ f e
+unfolding takeAll
+kept f same [] e = refl
+kept f same (x ∷ xs) e = kept f same xs (takeOne e x) ∙ same e x
 
 pub same-code : (xs : List ℤ) (e : E) → takeAll e xs .code ≡ e .code
-unfolding takeAll takeOne
-same-code [] e = refl
-same-code (x ∷ xs) e = same-code xs (takeOne e x)
+unfolding takeOne
+same-code = kept (λ e. e .code) (λ e x. refl)
 
 pub same-K : (xs : List ℤ) (e : E) → takeAll e xs .K ≡ e .K
-unfolding takeAll takeOne
-same-K [] e = refl
-same-K (x ∷ xs) e = same-K xs (takeOne e x)
+unfolding takeOne
+same-K = kept (λ e. e .K) (λ e x. refl)
 
 pub same-I : (xs : List ℤ) (e : E) → takeAll e xs .I ≡ e .I
-unfolding takeAll takeOne
-same-I [] e = refl
-same-I (x ∷ xs) e = same-I xs (takeOne e x)
+unfolding takeOne
+same-I = kept (λ e. e .I) (λ e x. refl)
+
+pub same-o : (xs : List ℤ) (e : E) → takeAll e xs .o ≡ e .o
+unfolding takeOne
+same-o = kept (λ e. e .o) (λ e x. refl)
 
 pub total : (xs : List ℤ) (e : E) → takeAll e xs .y ≡ e .y + length xs
 unfolding takeAll takeOne
@@ -74,9 +82,9 @@ pub record Tied (D : ℕ) (m : State) (e : E) : Type 0 where
   pub each : (j : ℕ) → j < thresholds → Between D j (m .sums .n .0) (activity (m .a) j) (getD (m .h) j 0) e
   pub falls : (j : ℕ) → j + 1 < thresholds → Under (activity (m .a) (j + 1)) (getD (m .h) (j + 1) 0) (activity (m .a) j) (getD (m .h) j 0)
   pub sum : natAbs (m .sums .s) ≤ m .sums .n .0 * 2 ^ 15
-  pub squares : twoWords (m .sums .sq) ≤ m .sums .n .0 * 2 ^ 30
-  pub p-max : m .sums .p ≤ 2 ^ 39
-  pub q-max : m .sums .q ≤ 2 ^ 39
+  pub squares : twoWords (m .sums .sq) ≤ m .sums .n .0 * 2 ^ 32
+  pub p-max : m .sums .p ≤ 2 ^ 40
+  pub q-max : m .sums .q ≤ 2 ^ 40
 
 -- what stands at each place of the lists of counts and hangovers
 count-at : (f : ℕ → ℕ) (j : ℕ) → j < thresholds → activity (each thresholds (λ i. samplesOf (f i))) j ≡ f j
@@ -93,7 +101,7 @@ both-at f g i j k l u =
       hang = omega (arith, hang-at g i k, hang-at g j l, u .hang);
     }
 
-more : (s n y : ℕ) → s ≤ n * 2 ^ 30 → y ≤ 2 ^ 15 * 2 ^ 15 → s + y ≤ (n + 1) * 2 ^ 30
+more : (s n y : ℕ) → s ≤ n * 2 ^ 32 → y ≤ 2 ^ 16 * 2 ^ 16 → s + y ≤ (n + 1) * 2 ^ 32
 more s n y h k = omega arith
 
 rises : (j : ℕ) → threshold j ≤ threshold (j + 1)
@@ -106,10 +114,10 @@ power-pos i = one-le-pow i (2 ^ 20) (lit≤ tt)
 pub power-next : (i : ℕ) → (2 ^ 20) ^ i * 2 ^ 20 ≡ (2 ^ 20) ^ (i + 1)
 power-next i = sym (ap (λ (k : ℕ). (2 ^ 20) ^ k) (add-one i) ∙ pow-suc (2 ^ 20) i)
 
-module _ (D : ℕ) (m : State) (e : E) (x : ℤ) (k0 : 0 < e .K) (kG : e .K ≤ 2 ^ 20) (wide : 2 ^ 21 ≤ D * e .K) (sx : natAbs x ≤ 2 ^ 15) (t : Tied D m e) where
+module _ (D : ℕ) (m : State) (e : E) (x : ℤ) (k0 : 0 < e .K) (kG : e .K ≤ 2 ^ 20) (wide : 2 ^ 21 ≤ D * e .K) (sx : natAbs x ≤ 2 ^ 15) (so : size (e .o) x ≤ 2 ^ 16) (t : Tied D m e) where
   -- the envelope after the sample, of the meter and of E
   P : ℕ
-  P = smooth (e .K) (m .sums .p) (rectified x)
+  P = smooth (e .K) (m .sums .p) (rectified (e .o) x)
 
   Q : ℕ
   Q = smooth (e .K) (m .sums .q) P
@@ -118,17 +126,17 @@ module _ (D : ℕ) (m : State) (e : E) (x : ℤ) (k0 : 0 < e .K) (kG : e .K ≤ 
   W = (2 ^ 20) ^ (e .y + 1)
 
   pn : ℕ
-  pn = e .pn * (2 ^ 20 - e .K) + natAbs x * 2 ^ 24 * (2 ^ 20) ^ (e .y) * e .K
+  pn = e .pn * (2 ^ 20 - e .K) + distance (e .o) x * 2 ^ 24 * (2 ^ 20) ^ (e .y) * e .K
 
   qn : ℕ
   qn = e .qn * (2 ^ 20 - e .K) + pn * e .K
 
   p-near : Near (2 ^ 20) (e .K) 1 W P pn
-  unfolding P W pn rectified
+  unfolding P W pn rectified size distance
   p-near =
       subst (λ (w : ℕ). Near (2 ^ 20) (e .K) 1 w P pn) (power-next (e .y))
-      (near-step (e .K) 0 ((2 ^ 20) ^ (e .y)) (m .sums .p) (e .pn) (natAbs x * 2 ^ 24) (natAbs x * 2 ^ 24 * (2 ^ 20) ^ (e .y)) k0 kG (power-pos (e .y)) (t .p)
-      (fed-exact (2 ^ 20) (e .K) ((2 ^ 20) ^ (e .y)) (natAbs x * 2 ^ 24)))
+      (near-step (e .K) 0 ((2 ^ 20) ^ (e .y)) (m .sums .p) (e .pn) (size (e .o) x * 2 ^ 24) (distance (e .o) x * 2 ^ 24 * (2 ^ 20) ^ (e .y)) k0 kG (power-pos (e .y)) (t .p)
+      (fed-exact (2 ^ 20) (e .K) ((2 ^ 20) ^ (e .y)) (size (e .o) x * 2 ^ 24)))
 
   q-near : Near (2 ^ 20) (e .K) 2 ((2 ^ 20) ^ (e .y + 1 + 1)) Q qn
   unfolding Q qn W
@@ -161,16 +169,16 @@ module _ (D : ℕ) (m : State) (e : E) (x : ℤ) (k0 : 0 < e .K) (kG : e .K ≤ 
         held = hung-le (e .I) (leb (threshold j) Q) (getD (m .h) j 0) (b .held);
       }
 
-  P-max : P ≤ 2 ^ 39
+  P-max : P ≤ 2 ^ 40
   unfolding P rectified
-  P-max = smooth-le (e .K) (2 ^ 39) (m .sums .p) (natAbs x * 2 ^ 24) kG (t .p-max) (omega (arith, sx))
+  P-max = smooth-le (e .K) (2 ^ 40) (m .sums .p) (size (e .o) x * 2 ^ 24) kG (t .p-max) (omega (arith, so))
 
   pub tied-step : Tied D (stateAfterOne (by e) m x) (takeOne e x)
-  unfolding stateAfterOne summed counts hangovers takeOne P Q W pn qn
+  unfolding stateAfterOne summed counts hangovers takeOne P Q W pn qn size distance
   tied-step =
       record {
         taken = ap (λ (i : ℕ). i + 1) (t .taken);
-        power = two-of-words (twoWords (m .sums .sq) + natAbs x * natAbs x) ∙ ap (λ (s : ℕ). s + natAbs x * natAbs x) (t .power);
+        power = two-of-words (twoWords (m .sums .sq) + size (e .o) x * size (e .o) x) ∙ ap (λ (s : ℕ). s + size (e .o) x * size (e .o) x) (t .power);
         p = p-near;
         q = q-near;
         each = λ j l. subst (λ (h : ℕ). Between D j (m .sums .n .0 + 1) (activity (each thresholds (λ i. samplesOf (countOf i))) j) h (takeOne e x)) (sym (hang-at hangs j l))
@@ -178,9 +186,9 @@ module _ (D : ℕ) (m : State) (e : E) (x : ℤ) (k0 : 0 < e .K) (kG : e .K ≤ 
         falls = λ j l. both-at countOf hangs (j + 1) j l (omega arith)
             (under-step (e .I) _ _ _ _ (leb (threshold (j + 1)) Q) (leb (threshold j) Q) (on-lower j) (t .falls j l));
         sum = omega (arith, abs-sum (m .sums .s) x, t .sum, sx);
-        squares = le-trans (le-of-eq (two-of-words _)) (more (twoWords (m .sums .sq)) (m .sums .n .0) (natAbs x * natAbs x) (t .squares) (mul-le-mul sx sx));
+        squares = le-trans (le-of-eq (two-of-words _)) (more (twoWords (m .sums .sq)) (m .sums .n .0) (size (e .o) x * size (e .o) x) (t .squares) (mul-le-mul so so));
         p-max = P-max;
-        q-max = smooth-le (e .K) (2 ^ 39) (m .sums .q) P kG (t .q-max) P-max;
+        q-max = smooth-le (e .K) (2 ^ 40) (m .sums .q) P kG (t .q-max) P-max;
       }
     where
       countOf : ℕ → ℕ
@@ -190,17 +198,17 @@ module _ (D : ℕ) (m : State) (e : E) (x : ℤ) (k0 : 0 < e .K) (kG : e .K ≤ 
       hangs j = hung (e .I) (leb (threshold j) Q) (getD (m .h) j 0)
 
 -- samples in order
-pub tied-samples : (D : ℕ) (xs : List ℤ) (m : State) (e : E) → 0 < e .K → e .K ≤ 2 ^ 20 → 2 ^ 21 ≤ D * e .K → AllSamples xs → Tied D m e
+pub tied-samples : (D : ℕ) (xs : List ℤ) (m : State) (e : E) → 0 < e .K → e .K ≤ 2 ^ 20 → 2 ^ 21 ≤ D * e .K → SFits w16 (e .o) → AllSamples xs → Tied D m e
     → Tied D (stateAfter (by e) m xs) (takeAll e xs)
 unfolding stateAfter takeAll AllSamples takeOne
-tied-samples D [] m e k0 kG wide f t = t
-tied-samples D (x ∷ xs) m e k0 kG wide f t =
-    tied-samples D xs (stateAfterOne (by e) m x) (takeOne e x) k0 kG wide (f .1) (tied-step D m e x k0 kG wide (small x (f .0)) t)
+tied-samples D [] m e k0 kG wide g f t = t
+tied-samples D (x ∷ xs) m e k0 kG wide g f t =
+    tied-samples D xs (stateAfterOne (by e) m x) (takeOne e x) k0 kG wide g (f .1) (tied-step D m e x k0 kG wide (small x (f .0)) (size-small (e .o) x g (f .0)) t)
 
 -- a fresh start
-pub tied-fresh : (D code K I : ℕ) → Tied D (freshState I) (startAt code K I)
+pub tied-fresh : (D code K I : ℕ) (o : ℤ) → Tied D (freshState I) (startAt code K I o)
 unfolding freshState startAt
-tied-fresh D code K I =
+tied-fresh D code K I o =
     record {
       taken = refl;
       power = two-of-words 0;
@@ -221,13 +229,13 @@ tied-fresh D code K I =
 
 -- ---- the envelope alone
 
-pub envelope-bound : (K I D : ℕ) (xs : List ℤ) → 1 ≤ K → K ≤ 2 ^ 20 → Ceiling (2 ^ 21) K D → AllSamples xs → EnvelopeBound K I D xs
+pub envelope-bound : (K I D : ℕ) (o : ℤ) (xs : List ℤ) → 1 ≤ K → K ≤ 2 ^ 20 → Ceiling (2 ^ 21) K D → SFits w16 o → AllSamples xs → EnvelopeBound K I D o xs
 unfolding startAt
-envelope-bound K I D xs k0 kG d f =
-    let e = startAt 0 K I in
-    let t = tied-samples D xs (freshState I) e k0 kG (d .not-below) f (tied-fresh D 0 K I) in
-    let Q = envelopeAfter K I xs in
-    let qn = exactEnvelopeAfter K I xs in
+envelope-bound K I D o xs k0 kG d g f =
+    let e = startAt 0 K I o in
+    let t = tied-samples D xs (freshState I) e k0 kG (d .not-below) g f (tied-fresh D 0 K I o) in
+    let Q = envelopeAfter K I o xs in
+    let qn = exactEnvelopeAfter K I o xs in
     let near = subst (λ (i : ℕ). Near (2 ^ 20) K 2 ((2 ^ 20) ^ (i + 1)) Q qn) (total xs e ∙ zero-add (length xs))
     (subst (λ (k : ℕ). Near (2 ^ 20) k 2 ((2 ^ 20) ^ (takeAll e xs .y + 1)) Q qn) (same-K xs e) (t .q)) in
     record {

@@ -1,12 +1,12 @@
 -- The whole claim: the customer's three demands, each a record with a field for each clause of its sentence, and `Claim`, that all three hold. What
 -- only the check of the code can show stands as a comment that names the contracts. What is in quotes are his words; his "document 01" is the scope
--- that docs/METHOD.md states, and L1 the first of the requests by which he amended it.
+-- that docs/METHOD.md states, as his requests L1 and L2 amended it.
 use mathlib.Core.Bool.{Bool, true, false}
 use mathlib.Core.List.{List, [], _∷_}
 use mathlib.Core.Logic.{_↔_}
 use mathlib.Core.Path.{_≡_}
 use Prim.Native.Nat.{ℕ, _+_, _*_, _^_, _≤_, _<_}
-use lib.IntN.{ℤ, pos, natAbs, _+ℤ_}
+use lib.IntN.{ℤ, pos, natAbs, _+ℤ_, _-ℤ_}
 use lib.ListN.{length}
 use lib.Signed.{ltZ, leZ}
 use Rattle.level.specs.Types.{thresholds, activity, twoWords}
@@ -24,9 +24,10 @@ use Rattle.meter.specs.Calls.{HandedReport, countingOf, afterSamples, openCall,
 use Rattle.meter.specs.Opened.{Fresh, Zeros}
 use Rattle.meter.specs.Refusals.{impossible, openRules, chunkRules, blockCallRules}
 use Rattle.meter.specs.Reports.{reportRules}
-use Rattle.exact.specs.Calls.{Call, Typed}
+use Rattle.exact.specs.Calls.{TypedSetting, Call, Typed}
 use Rattle.exact.specs.Exact.{E, start, exactly, answersOfE, took}
 use Rattle.exact.specs.Lists.{after, answers, taken}
+use Rattle.exact.specs.NoOffset.{NoOffset}
 
 -- ---- lists of calls, from the opening on
 
@@ -55,22 +56,22 @@ exactAfter c calls = exactly (start c) calls
 abbrev pub countAt : E → ℕ → ℕ
 countAt e c = e .u c
 
--- the sum, and the sum of squares, of samples
+-- the sum of samples, and the sum of squares of x − o over them
 unfoldable pub sum : List ℤ → ℤ
 sum [] = pos 0
 sum (x ∷ xs) = x +ℤ sum xs
 
-unfoldable pub sumOfSquares : List ℤ → ℕ
-sumOfSquares [] = 0
-sumOfSquares (x ∷ xs) = natAbs x * natAbs x + sumOfSquares xs
+unfoldable pub sumOfSquares : (o : ℤ) → List ℤ → ℕ
+sumOfSquares o [] = 0
+sumOfSquares o (x ∷ xs) = natAbs (x -ℤ o) * natAbs (x -ℤ o) + sumOfSquares o xs
 
 -- ---- demand 1: "No input and no order of calls may stop the meter, wrap a sum or spoil a running measurement"
 
--- after a list of calls n, s and sq are those of the accepted ones' samples, and no call is refused with 2
+-- after a list of calls n, s and sq are those of the accepted ones' samples, s of raw samples and sq of x − o, and no call is refused with 2
 pub record NothingLost (c : Setting) (calls : List Call) : Type 0 where
   pub total : meterAfter c calls .state .sums .n .0 ≡ length (takenFrom c calls)
   pub sums : meterAfter c calls .state .sums .s ≡ sum (takenFrom c calls)
-  pub squares : twoWords (meterAfter c calls .state .sums .sq) ≡ sumOfSquares (takenFrom c calls)
+  pub squares : twoWords (meterAfter c calls .state .sums .sq) ≡ sumOfSquares (c .offset) (takenFrom c calls)
   pub possible : impossible (meterAfter c calls) ≡ false
 
 -- the number given to a call is that of the first of its rules that applies, which is the lowest; 0 where none applies
@@ -81,7 +82,7 @@ pub record Demand1 : Type 0 where
   -- "every call ends": the check proves of every function that it returns. `Meter::open`, `Meter::chunk`, `Meter::block`, `Meter::report` and
   -- `hoggetwhirl_check_block` have no `requires`: they return for every argument whatever
   -- "wrap a sum or spoil a running measurement"
-  pub nothing-lost : (c : Setting) (calls : List Call) → Opens c → Typed calls → NothingLost c calls
+  pub nothing-lost : (c : Setting) (calls : List Call) → TypedSetting c → Opens c → Typed calls → NothingLost c calls
   -- "whatever is wrong gets the refusal that document 01 numbers for it"
   pub open-number : (c : Setting) → Numbered (openRules c) (openCall c .number)
   pub chunk-number : (m : Meter) (xs : List ℤ) → Numbered (chunkRules m xs) (chunkCall m xs .number)
@@ -109,6 +110,8 @@ pub record Demand2 : Type 0 where
   pub opened : (c : Setting) → Opens c → Fresh c (openCall c .meter)
   pub measured : (c : Setting) (calls : List Call) → Opens c
       → meterAfter c calls ≡ record { setting = c; state = stateAfter (countingOf c) (freshState (iOf c)) (takenFrom c calls) }
+  -- and, as his request L2 has it, "With o = 0 every measurement from a fresh meter is today's"
+  pub no-offset : NoOffset
   -- "crossing, levels and factor": a report on any meter that 2 lets pass is the one of METHOD.md; F is never above 0
   pub reported : (m : Meter) → impossible m ≡ false → Answered m (reportCall m .number) (reportCall m .report)
   pub factor : (m : Meter) → reportCall m .number ≡ 0 → ltZ (pos 0) (reportCall m .report .levels .factor .0) ≡ false
@@ -137,7 +140,7 @@ pub record Demand3 (c : Setting) (calls : List Call) : Type 0 where
   -- "The meter accepts exactly the calls that E accepts", and so takes the samples that E takes, whose squares E adds up
   pub same-calls : answersTo c calls ≡ answersOfE (start c) calls
   pub same-samples : takenFrom c calls ≡ took (start c) calls
-  pub exact-squares : exactAfter c calls .sq ≡ sumOfSquares (took (start c) calls)
+  pub exact-squares : exactAfter c calls .sq ≡ sumOfSquares (c .offset) (took (start c) calls)
   -- "Each activity count is at most E's count at that threshold, and at least E's count at the threshold raised by document 01's D"
   pub at-most : (j : ℕ) → j < thresholds → activity (meterAfter c calls .state .a) j ≤ countAt (exactAfter c calls) (threshold j)
   pub at-least : (j : ℕ) → j < thresholds → countAt (exactAfter c calls) (threshold j + dOf c) ≤ activity (meterAfter c calls .state .a) j
@@ -153,4 +156,4 @@ pub record Demand3 (c : Setting) (calls : List Call) : Type 0 where
 pub record Claim : Type 0 where
   pub demand1 : Demand1
   pub demand2 : Demand2
-  pub demand3 : (c : Setting) (calls : List Call) → Opens c → Typed calls → Demand3 c calls
+  pub demand3 : (c : Setting) (calls : List Call) → TypedSetting c → Opens c → Typed calls → Demand3 c calls

@@ -1,4 +1,4 @@
--- The envelope's error, for any K and any samples from a fresh start. The count bounds of demand 3 rest on it.
+-- The envelope's error, for any K, any offset and any samples from a fresh start. The count bounds of demand 3 rest on it.
 use mathlib.Core.List.{List}
 use Prim.Native.Nat.{ℕ, _+_, _*_, _^_, _≤_, _<_}
 use lib.IntN.{ℤ}
@@ -6,14 +6,14 @@ use lib.ListN.{length}
 use Rattle.sample.specs.Sample.{freshState, stateAfter}
 use Rattle.exact.specs.Exact.{startAt, takeAll}
 
--- Q, and the numerator of E's q, after samples from a fresh start with any K and I
-abbrev pub envelopeAfter : (K I : ℕ) → List ℤ → ℕ
-envelopeAfter K I xs = stateAfter (record { k = K; i = I }) (freshState I) xs .sums .q
+-- Q, and the numerator of E's q, after samples from a fresh start with any K, I and offset
+abbrev pub envelopeAfter : (K I : ℕ) (o : ℤ) → List ℤ → ℕ
+envelopeAfter K I o xs = stateAfter (record { k = K; i = I; offset = o }) (freshState I) xs .sums .q
 
-abbrev pub exactEnvelopeAfter : (K I : ℕ) → List ℤ → ℕ
-exactEnvelopeAfter K I xs = takeAll (startAt 0 K I) xs .qn
+abbrev pub exactEnvelopeAfter : (K I : ℕ) (o : ℤ) → List ℤ → ℕ
+exactEnvelopeAfter K I o xs = takeAll (startAt 0 K I o) xs .qn
 
 -- Q does not exceed q, and q stays below Q + D
-pub record EnvelopeBound (K I D : ℕ) (xs : List ℤ) : Type 0 where
-  pub never-above : envelopeAfter K I xs * (2 ^ 20) ^ (length xs + 1) ≤ exactEnvelopeAfter K I xs
-  pub less-than-D : exactEnvelopeAfter K I xs < (envelopeAfter K I xs + D) * (2 ^ 20) ^ (length xs + 1)
+pub record EnvelopeBound (K I D : ℕ) (o : ℤ) (xs : List ℤ) : Type 0 where
+  pub never-above : envelopeAfter K I o xs * (2 ^ 20) ^ (length xs + 1) ≤ exactEnvelopeAfter K I o xs
+  pub less-than-D : exactEnvelopeAfter K I o xs < (envelopeAfter K I o xs + D) * (2 ^ 20) ^ (length xs + 1)

@@ -1,10 +1,10 @@
--- E, the plain machine of demand 3: METHOD.md, "The exact machine E". It is fed the rate code of the setting and the calls' arguments, and nothing of the
--- meter.
+-- E, the plain machine of demand 3: METHOD.md, "The exact machine E". It is fed the rate code and the offset of the setting and the calls' arguments, and
+-- nothing of the meter.
 use mathlib.Core.Bool.{Bool, cond, _&&_}
 use mathlib.Core.List.{List, [], _∷_, _++_}
 use Prim.Native.Nat.{ℕ, _+_, _-_, _*_, _^_}
 use lib.Dec.{eqb, leb, ltb}
-use lib.IntN.{ℤ, natAbs}
+use lib.IntN.{ℤ, natAbs, _-ℤ_}
 use lib.ListN.{length}
 use Rattle.rate.specs.Rates.{rowOf}
 use Rattle.block.specs.Block.{rateCode, count, before}
@@ -12,12 +12,13 @@ use Rattle.block.specs.Refusals.{sound}
 use Rattle.setting.specs.declared.Setting.{Setting}
 use Rattle.exact.specs.Calls.{Call, chunk, block, broughtBy}
 
--- the code with its K and I, the total y, the fractions p = pn/(2^20)^y and q = qn/(2^20)^(y+1), for each threshold c in units a count u(c)
--- and a hangover v(c), and the sum of the squares of the samples taken
+-- the code with its K and I, the offset o, the total y, the fractions p = pn/(2^20)^y and q = qn/(2^20)^(y+1), for each threshold c in units a count u(c)
+-- and a hangover v(c), and the sum of the squares of x − o over the samples x taken
 pub record E : Type 0 where
   pub code : ℕ
   pub K : ℕ
   pub I : ℕ
+  pub o : ℤ
   pub y : ℕ
   pub pn : ℕ
   pub qn : ℕ
@@ -26,12 +27,16 @@ pub record E : Type 0 where
   pub sq : ℕ
 
 -- before any call: nothing is counted, and every hangover has run out
-unfoldable pub startAt : (code K I : ℕ) → E
-startAt code K I =
-    record { code = code; K = K; I = I; y = 0; pn = 0; qn = 0; u = λ c. 0; v = λ c. I; sq = 0 }
+unfoldable pub startAt : (code K I : ℕ) (o : ℤ) → E
+startAt code K I o =
+    record { code = code; K = K; I = I; o = o; y = 0; pn = 0; qn = 0; u = λ c. 0; v = λ c. I; sq = 0 }
 
 unfoldable pub start : Setting → E
-start c = startAt (c .code) (rowOf (c .code) .k) (rowOf (c .code) .i)
+start c = startAt (c .code) (rowOf (c .code) .k) (rowOf (c .code) .i) (c .offset)
+
+-- |x − o|, all that E reads of a sample x
+unfoldable pub distance : (o x : ℤ) → ℕ
+distance o x = natAbs (x -ℤ o)
 
 -- q ≥ c, for q = qn/(2^20)^(y+1)
 unfoldable pub reaches : (y qn c : ℕ) → Bool
@@ -45,23 +50,25 @@ countNext I on u v = cond on (u + 1) (cond (ltb v I) (u + 1) u)
 unfoldable pub hangoverNext : (I : ℕ) (on : Bool) (v : ℕ) → ℕ
 hangoverNext I on v = cond on 0 (cond (ltb v I) (v + 1) v)
 
--- after a sample x: p moves towards |x|·2^24 by K/2^20 of the way, and q as much towards the new p; numerators here, while the denominators grow
+-- after a sample x: p moves towards |x − o|·2^24 by K/2^20 of the way, and q as much towards the new p; numerators here, while the denominators grow
 -- with y
 unfoldable pub takeOne : E → ℤ → E
 takeOne e x =
     let y = e .y + 1 in
-    let pn = e .pn * (2 ^ 20 - e .K) + natAbs x * 2 ^ 24 * (2 ^ 20) ^ (e .y) * e .K in
+    let d = distance (e .o) x in
+    let pn = e .pn * (2 ^ 20 - e .K) + d * 2 ^ 24 * (2 ^ 20) ^ (e .y) * e .K in
     let qn = e .qn * (2 ^ 20 - e .K) + pn * e .K in
     record {
       code = e .code;
       K = e .K;
       I = e .I;
+      o = e .o;
       y = y;
       pn = pn;
       qn = qn;
       u = λ c. countNext (e .I) (reaches y qn c) (e .u c) (e .v c);
       v = λ c. hangoverNext (e .I) (reaches y qn c) (e .v c);
-      sq = e .sq + natAbs x * natAbs x;
+      sq = e .sq + d * d;
     }
 
 unfoldable pub takeAll : E → List ℤ → E

@@ -1,8 +1,8 @@
 -- E's fractions p and q, and METHOD.md's recurrence for them ("The exact machine E"). E holds numerators; this is what they stand for.
 use mathlib.Core.Path.{_≡_}
 use Prim.Native.Nat.{ℕ, _+_, _-_, _*_, _^_}
-use lib.IntN.{ℤ, natAbs}
-use Rattle.exact.specs.Exact.{E, takeOne}
+use lib.IntN.{ℤ}
+use Rattle.exact.specs.Exact.{E, distance, takeOne}
 
 pub record Fraction : Type 0 where
   pub over : ℕ
@@ -32,7 +32,7 @@ p e = record { over = e .pn; under = (2 ^ 20) ^ (e .y) }
 abbrev pub q : E → Fraction
 q e = record { over = e .qn; under = (2 ^ 20) ^ (e .y + 1) }
 
--- after a sample x: p becomes (p(2^20 − K) + |x|·2^24·K) / 2^20; then q becomes (q(2^20 − K) + p·K) / 2^20 with the new p
+-- after a sample x: p becomes (p(2^20 − K) + |x − o|·2^24·K) / 2^20; then q becomes (q(2^20 − K) + p·K) / 2^20 with the new p
 pub record Recurs (e : E) (x : ℤ) : Type 0 where
-  pub p-next : Same (p (takeOne e x)) (over (sum (times (p e) (2 ^ 20 - e .K)) (whole (natAbs x * 2 ^ 24 * e .K))) (2 ^ 20))
+  pub p-next : Same (p (takeOne e x)) (over (sum (times (p e) (2 ^ 20 - e .K)) (whole (distance (e .o) x * 2 ^ 24 * e .K))) (2 ^ 20))
   pub q-next : Same (q (takeOne e x)) (over (sum (times (q e) (2 ^ 20 - e .K)) (times (p (takeOne e x)) (e .K))) (2 ^ 20))

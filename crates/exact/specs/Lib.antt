@@ -4,3 +4,4 @@ pub mod Envelope
 pub mod Exact
 pub mod Fractions
 pub mod Lists
+pub mod NoOffset

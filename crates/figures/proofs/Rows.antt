@@ -20,7 +20,7 @@ use Rattle.meter.specs.Calls.{openCall, chunkCall, reportCall}
 use Rattle.meter.proofs.Laws.{percent-of}
 use Rattle.exact.specs.Demands.{countAt}
 use Rattle.exact.specs.Envelope.{envelopeAfter, exactEnvelopeAfter}
-use Rattle.figures.specs.Meters.{settingOf, given, countsOf}
+use Rattle.figures.specs.Meters.{given, countsOf}
 use Rattle.figures.specs.Rows.{Shown, nothing, Values, Row, level, noLevel, percent, sampled, reported, refused, opened, handedIn, answered, checked, played, counted, needsTwo, needsD, sampledMeter, meterFrom, exactFrom, numbersOf, levelsOf, valuesOf, Holds, All}
 use Rattle.figures.proofs.Tests.{Test, via, _and_, is, isNot, unless, atMost, itself, _on_, Equality, sameNumber, sameInteger, sameList, sameOption}
 
@@ -54,12 +54,14 @@ sameShown m y samePercentage =
     on sameNumber (x .upper) (y .upper)
     on samePercentage
 
-abbrev values : (n : ℕ) (s : ℤ) (high low P Q : ℕ) (a h : List ℕ) → Values
-values n s high low P Q a h = record { n = n; s = s; high = high; low = low; P = P; Q = Q; a = a; h = h }
+abbrev values : (code : ℕ) (offset : ℤ) (n : ℕ) (s : ℤ) (high low P Q : ℕ) (a h : List ℕ) → Values
+values code offset n s high low P Q a h = record { code = code; offset = offset; n = n; s = s; high = high; low = low; P = P; Q = Q; a = a; h = h }
 
 abbrev pub sameValues : Equality Values
 sameValues x y =
     itself values
+    on sameNumber (x .code) (y .code)
+    on sameInteger (x .offset) (y .offset)
     on sameNumber (x .n) (y .n)
     on sameInteger (x .s) (y .s)
     on sameNumber (x .high) (y .high)
@@ -75,8 +77,8 @@ unfolding Holds
 testOf (level N v) = sameOption sameInteger (levelOf N) (some (pos v))
 testOf (noLevel N) = sameOption sameInteger (levelOf N) none
 testOf (percent F T) = percentage F T
-testOf (sampled code xs P Q a number) =
-    let m = sampledMeter code xs in
+testOf (sampled c xs P Q a number) =
+    let m = sampledMeter c xs in
     via (λ h. (h .0, h .1 .0, h .1 .1 .0, h .1 .1 .1))
     (sameNumber (m .state .sums .p) P
     and sameNumber (m .state .sums .q) Q
@@ -88,21 +90,22 @@ testOf (reported n sq a r) =
 testOf (refused n sq a number) =
     let m = given n sq a in
     sameNumber (reportCall m .number) number and sameShown m nothing (sameNumber (reportCall m .report .percent .0) (nothing .T))
-testOf (opened code number) = sameNumber (openCall (settingOf code) .number) number
+testOf (opened c number) = sameNumber (openCall c .number) number
 testOf (handedIn m number) = sameNumber (chunkCall m [] .number) number
 testOf (answered m calls numbers) = sameList sameNumber (numbersOf m calls) numbers
 testOf (checked bytes code number) = sameNumber (hostCheck bytes code) number
-testOf (played code calls v) = sameValues (valuesOf (meterFrom code calls)) v
-testOf (counted code calls c u) = sameNumber (countAt (exactFrom code calls) c) u
-testOf (needsTwo code calls A) =
-    let r = reportCall (meterFrom code calls) .report in
-    let e = exactFrom code calls in
+testOf (played c calls v) = sameValues (valuesOf (meterFrom c calls)) v
+testOf (counted s calls c u) = sameNumber (countAt (exactFrom s calls) c) u
+testOf (needsTwo c calls A) =
+    let r = reportCall (meterFrom c calls) .report in
+    let e = exactFrom c calls in
     sameInteger (r .levels .active .0) (pos A)
     and atMost (2 ^ (A + 1) * countAt e (threshold (r .levels .lower)) ^ 4096) (e .sq ^ 4096)
-testOf (needsD code xs Q) =
-    let r = rowOf code in
-    sameNumber (envelopeAfter (r .k) (r .i) xs) Q
-    and atMost ((Q + (r .d - 1)) * (2 ^ 20) ^ (length xs + 1)) (exactEnvelopeAfter (r .k) (r .i) xs)
+testOf (needsD c xs Q) =
+    let r = rowOf (c .code) in
+    let o = c .offset in
+    sameNumber (envelopeAfter (r .k) (r .i) o xs) Q
+    and atMost ((Q + (r .d - 1)) * (2 ^ 20) ^ (length xs + 1)) (exactEnvelopeAfter (r .k) (r .i) o xs)
 
 unfoldable pub test : Row → Bool
 test r = testOf r .passes

@@ -11,9 +11,12 @@ use Rattle.meter.specs.declared.Meter.{Meter}
 use Rattle.setting.specs.declared.Setting.{Setting}
 use Rattle.meter.specs.Calls.{fresh}
 
--- the setting of a code, and the fresh meter of one
+-- the setting of a code and an offset; of a code without one; and the fresh meter of such a code
+abbrev pub offsetBy : (code : ℕ) (o : ℤ) → Setting
+offsetBy code o = record { code = code; offset = o }
+
 abbrev pub settingOf : ℕ → Setting
-settingOf code = record { code = code }
+settingOf code = offsetBy code (pos 0)
 
 abbrev pub freshAt : ℕ → Meter
 freshAt code = fresh (settingOf code)
@@ -32,7 +35,10 @@ plain = given 1000 0 (replicate thresholds 0)
 
 -- a meter with one of its fields another
 abbrev pub withCode : ℕ → Meter → Meter
-withCode code m = record { setting = settingOf code; state = m .state }
+withCode code m = record { setting = offsetBy code (m .setting .offset); state = m .state }
+
+abbrev pub withOffset : ℤ → Meter → Meter
+withOffset o m = record { setting = offsetBy (m .setting .code) o; state = m .state }
 
 abbrev withState : State → Meter → Meter
 withState x m = record { setting = m .setting; state = x }

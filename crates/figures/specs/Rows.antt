@@ -10,15 +10,16 @@ use Rattle.rate.specs.Rates.{rowOf}
 use Rattle.block.specs.Refusals.{hostCheck}
 use Rattle.percent.specs.Percent.{percentOf}
 use Rattle.sample.specs.Envelope.{threshold}
+use Rattle.setting.specs.declared.Setting.{Setting}
 use Rattle.meter.specs.declared.Meter.{Meter}
 use Rattle.meter.specs.declared.Report.{Report}
-use Rattle.meter.specs.Calls.{afterSamples, openCall, chunkCall, reportCall}
+use Rattle.meter.specs.Calls.{fresh, afterSamples, openCall, chunkCall, reportCall}
 use Rattle.exact.specs.Calls.{Call}
 use Rattle.exact.specs.Demands.{meterAfter, exactAfter, countAt}
 use Rattle.exact.specs.Envelope.{envelopeAfter, exactEnvelopeAfter}
 use Rattle.exact.specs.Exact.{E}
 use Rattle.exact.specs.Lists.{called}
-use Rattle.figures.specs.Meters.{settingOf, freshAt, given, countsOf}
+use Rattle.figures.specs.Meters.{given, countsOf}
 
 -- the levels of a report, its thresholds and its percentage
 pub record Shown : Type 0 where
@@ -34,8 +35,10 @@ pub record Shown : Type 0 where
 abbrev pub nothing : Shown
 nothing = record { L = pos 0; A = pos 0; C = pos 0; F = pos 0; lower = 0; upper = 0; T = 0 }
 
--- the values of a meter after calls
+-- the values of a meter
 pub record Values : Type 0 where
+  pub code : ℕ
+  pub offset : ℤ
   pub n : ℕ
   pub s : ℤ
   pub high : ℕ
@@ -52,38 +55,38 @@ pub data Row : Type 0 where
   noLevel : (N : ℕ) → Row
   -- the percentage of a factor F is T
   percent : (F : ℤ) (T : ℕ) → Row
-  -- a fresh meter of a code after samples has P, Q and activity counts a, and its report is answered with number
-  sampled : (code : ℕ) (xs : List ℤ) (P Q : ℕ) (a : List ℕ) (number : ℕ) → Row
+  -- a fresh meter after samples has P, Q and activity counts a, and its report is answered with number
+  sampled : Setting → (xs : List ℤ) (P Q : ℕ) (a : List ℕ) (number : ℕ) → Row
   -- a meter handed in at code 2 with n, sq and a gets a report of these levels
   reported : (n sq : ℕ) (a : List ℕ) → Shown → Row
   -- a meter handed in at code 2 with n, sq and a is refused a report with number, and what the report shows is all zero
   refused : (n sq : ℕ) (a : List ℕ) (number : ℕ) → Row
-  -- opening with a code is answered with number
-  opened : (code number : ℕ) → Row
+  -- opening is answered with number
+  opened : Setting → (number : ℕ) → Row
   -- a meter handed in, whole, with an empty chunk is answered with number
   handedIn : Meter → (number : ℕ) → Row
   -- calls in turn, the first on this meter, are answered with these numbers, 0 where accepted
   answered : Meter → List Call → (numbers : List ℕ) → Row
   -- the line host hands over bytes and a code, and is answered with number
   checked : (bytes : List ℕ) (code number : ℕ) → Row
-  -- after calls from a fresh meter of a code the meter has these values
-  played : (code : ℕ) → List Call → Values → Row
-  -- after calls from a fresh start at a code E's count at threshold c is u
-  counted : (code : ℕ) → List Call → (c u : ℕ) → Row
-  -- calls from a fresh meter of a code, after which A is reported and one step more than A does not exceed E's exact level at the lower threshold
-  needsTwo : (code : ℕ) → List Call → (A : ℕ) → Row
-  -- samples from a fresh start at a code, after which the envelope is Q, and E's q is not below Q + (D − 1)
-  needsD : (code : ℕ) (xs : List ℤ) (Q : ℕ) → Row
+  -- after an opening and calls the meter has these values
+  played : Setting → List Call → Values → Row
+  -- after an opening and calls E's count at threshold c is u
+  counted : Setting → List Call → (c u : ℕ) → Row
+  -- calls after an opening, after which A is reported and one step more than A does not exceed E's exact level at the lower threshold
+  needsTwo : Setting → List Call → (A : ℕ) → Row
+  -- samples from a fresh start, after which the envelope is Q, and E's q is not below Q + (D − 1)
+  needsD : Setting → (xs : List ℤ) (Q : ℕ) → Row
 
-unfoldable pub sampledMeter : ℕ → List ℤ → Meter
-sampledMeter code xs = afterSamples (freshAt code) xs
+unfoldable pub sampledMeter : Setting → List ℤ → Meter
+sampledMeter c xs = afterSamples (fresh c) xs
 
--- the meter, and E, after calls from a fresh start at a code
-unfoldable pub meterFrom : ℕ → List Call → Meter
-meterFrom code calls = meterAfter (settingOf code) calls
+-- the meter, and E, after an opening and calls
+unfoldable pub meterFrom : Setting → List Call → Meter
+meterFrom c calls = meterAfter c calls
 
-unfoldable pub exactFrom : ℕ → List Call → E
-exactFrom code calls = exactAfter (settingOf code) calls
+unfoldable pub exactFrom : Setting → List Call → E
+exactFrom c calls = exactAfter c calls
 
 -- the numbers of calls in turn: each is given what the one before handed back
 unfoldable pub numbersOf : Meter → List Call → List ℕ
@@ -105,6 +108,8 @@ levelsOf r =
 unfoldable pub valuesOf : Meter → Values
 valuesOf m =
     record {
+      code = m .setting .code;
+      offset = m .setting .offset;
       n = m .state .sums .n .0;
       s = m .state .sums .s;
       high = m .state .sums .sq .high;
@@ -119,24 +124,25 @@ unfoldable pub Holds : Row → Type 0
 Holds (level N v) = levelOf N ≡ some (pos v)
 Holds (noLevel N) = levelOf N ≡ none
 Holds (percent F T) = percentOf F ≡ T
-Holds (sampled code xs P Q a number) =
-    let m = sampledMeter code xs in
+Holds (sampled c xs P Q a number) =
+    let m = sampledMeter c xs in
     (m .state .sums .p ≡ P) × (m .state .sums .q ≡ Q) × (countsOf m ≡ a) × (reportCall m .number ≡ number)
 Holds (reported n sq a r) = (reportCall (given n sq a) .number ≡ 0) × (levelsOf (reportCall (given n sq a) .report) ≡ r)
 Holds (refused n sq a number) = (reportCall (given n sq a) .number ≡ number) × (levelsOf (reportCall (given n sq a) .report) ≡ nothing)
-Holds (opened code number) = openCall (settingOf code) .number ≡ number
+Holds (opened c number) = openCall c .number ≡ number
 Holds (handedIn m number) = chunkCall m [] .number ≡ number
 Holds (answered m calls numbers) = numbersOf m calls ≡ numbers
 Holds (checked bytes code number) = hostCheck bytes code ≡ number
-Holds (played code calls v) = valuesOf (meterFrom code calls) ≡ v
-Holds (counted code calls c u) = countAt (exactFrom code calls) c ≡ u
-Holds (needsTwo code calls A) =
-    let r = reportCall (meterFrom code calls) .report in
-    let e = exactFrom code calls in
+Holds (played c calls v) = valuesOf (meterFrom c calls) ≡ v
+Holds (counted s calls c u) = countAt (exactFrom s calls) c ≡ u
+Holds (needsTwo c calls A) =
+    let r = reportCall (meterFrom c calls) .report in
+    let e = exactFrom c calls in
     (r .levels .active .0 ≡ pos A) × (2 ^ (A + 1) * countAt e (threshold (r .levels .lower)) ^ 4096 ≤ e .sq ^ 4096)
-Holds (needsD code xs Q) =
-    let r = rowOf code in
-    (envelopeAfter (r .k) (r .i) xs ≡ Q) × ((Q + (r .d - 1)) * (2 ^ 20) ^ (length xs + 1) ≤ exactEnvelopeAfter (r .k) (r .i) xs)
+Holds (needsD c xs Q) =
+    let r = rowOf (c .code) in
+    let o = c .offset in
+    (envelopeAfter (r .k) (r .i) o xs ≡ Q) × ((Q + (r .d - 1)) * (2 ^ 20) ^ (length xs + 1) ≤ exactEnvelopeAfter (r .k) (r .i) o xs)
 
 -- every row of a table holds
 unfoldable pub All : List Row → Type 0

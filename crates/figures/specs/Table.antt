@@ -7,7 +7,7 @@ use Rattle.sample.specs.Envelope.{threshold}
 use Rattle.meter.specs.Calls.{openCall}
 use Rattle.exact.specs.Calls.{Call, chunk, block}
 use Rattle.figures.specs.Blocks.{soundBlock, fullBlock, endBlock, twenty, threeBytes, otherSum, highSum, otherWeighted, otherKind, otherCode, noCount, highCount, usedNext, usedLast}
-use Rattle.figures.specs.Meters.{settingOf, freshAt, plain, withCode, withN, withS, withSq, withP, withQ, withA, withH}
+use Rattle.figures.specs.Meters.{offsetBy, settingOf, freshAt, plain, withCode, withOffset, withN, withS, withSq, withP, withQ, withA, withH}
 use Rattle.figures.specs.Rows.{Row, level, noLevel, percent, sampled, reported, refused, opened, handedIn, answered, checked, played, counted, needsTwo, needsD}
 
 -- x for the first k of fifteen, 0 for the others
@@ -57,8 +57,8 @@ table =
     ∷ level 10 13606
     ∷ level (2 ^ 32 - 1) 131071
     ∷ level (2 ^ 78) 319488
-    ∷ sampled 2 (pos 32767 ∷ []) 2285825920 9504509 (first 0 0) 14
-    ∷ sampled 2 (minus 1 ∷ []) 69760 290 (first 0 0) 14
+    ∷ sampled (settingOf 2) (pos 32767 ∷ []) 2285825920 9504509 (first 0 0) 14
+    ∷ sampled (settingOf 2) (minus 1 ∷ []) 69760 290 (first 0 0) 14
     ∷ percent (minus 8192) 2500
     ∷ percent (pos 0) 10000
     ∷ percent (minus 1) 9999
@@ -69,6 +69,31 @@ table =
     ∷ reported 16384 (2 ^ 30) (replicate 7 4096 ++ (2048 ∷ replicate 7 0)) (record { L = pos 65536; A = pos 76669; C = pos 55034; F = minus 11133; lower = 6; upper = 7; T = 1519 })
     ∷ reported 32768 1275068 (first 1 32768) (record { L = pos 21635; A = pos 21635; C = pos 0; F = pos 0; lower = 0; upper = 0; T = 10000 })
     ∷ refused 32768 (2 ^ 20) (first 1 32768) 15
+    -- a line card with an offset: the largest size that a sample can have, and a sample that is the offset
+    ∷ played (offsetBy 2 (pos 32767)) (chunk (minus 32768 ∷ []) ∷ []) (record {
+      code = 2;
+      offset = pos 32767;
+      n = 1;
+      s = minus 32768;
+      high = 0;
+      low = 4294836225;
+      P = 4571721600;
+      Q = 19009309;
+      a = first 1 1;
+      h = 0 ∷ replicate 14 1600;
+    })
+    ∷ played (offsetBy 2 (minus 1)) (chunk (minus 1 ∷ []) ∷ []) (record {
+      code = 2;
+      offset = minus 1;
+      n = 1;
+      s = minus 1;
+      high = 0;
+      low = 0;
+      P = 0;
+      Q = 0;
+      a = first 0 0;
+      h = replicate 15 1600;
+    })
     -- those of the customer's rows that he has run, not proved
     ∷ answered (withN (2 ^ 48) plain) (chunk (pos 1 ∷ []) ∷ chunk [] ∷ []) (11 ∷ 0 ∷ [])
     ∷ answered (freshAt 2) (chunk (replicate 4097 (pos 0)) ∷ chunk (replicate 4096 (pos 0)) ∷ []) (3 ∷ 0 ∷ [])
@@ -80,22 +105,38 @@ table =
     ∷ percent (pos (2 ^ 63 - 1)) 10000
     ∷ percent (minus (2 ^ 63)) 0
     -- the third rate
-    ∷ sampled 3 (pos 32767 ∷ []) 1143961504 2380489 (first 0 0) 14
+    ∷ sampled (settingOf 3) (pos 32767 ∷ []) 1143961504 2380489 (first 0 0) 14
     -- a crossing at the last threshold
     ∷ reported 16384 (2 ^ 44) (first 15 4096) (record { L = pos 122880; A = pos 131072; C = pos 109437; F = minus 8192; lower = 13; upper = 14; T = 2500 })
+    -- the largest sq that a report can meet
+    ∷ reported (2 ^ 48) (2 ^ 80) (first 15 (2 ^ 48)) (record { L = pos 131072; A = pos 131072; C = pos 109437; F = pos 0; lower = 13; upper = 14; T = 10000 })
     -- the other refusals of a report
-    ∷ refused 1 (2 ^ 30 + 1) (first 0 0) 2
+    ∷ refused 1 (2 ^ 32 + 1) (first 0 0) 2
     ∷ refused 0 0 (first 0 0) 12
     ∷ refused 1 0 (first 0 0) 13
     ∷ refused (2 ^ 40) (2 ^ 64) (first 0 0) 14
     ∷ refused 16384 (2 ^ 40) (first 8 4096) 16
     -- opening
-    ∷ opened 0 1
-    ∷ opened 1 0
-    ∷ opened 2 0
-    ∷ opened 3 0
-    ∷ opened 4 1
-    ∷ opened 257 1
+    ∷ opened (settingOf 0) 1
+    ∷ opened (settingOf 1) 0
+    ∷ opened (settingOf 2) 0
+    ∷ opened (settingOf 3) 0
+    ∷ opened (settingOf 4) 1
+    ∷ opened (settingOf 257) 1
+    ∷ opened (offsetBy 1 (minus 32768)) 0
+    -- a refused opening keeps nothing, not even the offset
+    ∷ played (offsetBy 4 (pos 5)) [] (record {
+      code = 0;
+      offset = pos 0;
+      n = 0;
+      s = pos 0;
+      high = 0;
+      low = 0;
+      P = 0;
+      Q = 0;
+      a = first 0 0;
+      h = first 0 0;
+    })
     -- refusal 2: the code, and the meter beside a refused opening
     ∷ handedIn plain 0
     ∷ handedIn (withCode 0 plain) 2
@@ -112,20 +153,23 @@ table =
     ∷ handedIn (withS (minus (1000 * 2 ^ 15 + 1)) plain) 2
     ∷ handedIn (withS (minus (2 ^ 63)) (withN (2 ^ 48) plain)) 0
     ∷ handedIn (withS (minus (2 ^ 63)) (withN (2 ^ 48 - 1) plain)) 2
-    -- sq > n·2^30
-    ∷ handedIn (withSq 0 (1000 * 2 ^ 30) plain) 0
-    ∷ handedIn (withSq 0 (1000 * 2 ^ 30 + 1) plain) 2
-    ∷ handedIn (withSq 0 (2 ^ 64 - 1) (withN (2 ^ 34) plain)) 0
-    ∷ handedIn (withSq 1 0 (withN (2 ^ 34) plain)) 0
-    ∷ handedIn (withSq 1 1 (withN (2 ^ 34) plain)) 2
-    ∷ handedIn (withSq 1 0 (withN (2 ^ 34 - 1) plain)) 2
-    ∷ handedIn (withSq (2 ^ 14) 0 (withN (2 ^ 48) plain)) 0
-    ∷ handedIn (withSq (2 ^ 14) 1 (withN (2 ^ 48) plain)) 2
-    -- P or Q > 2^39
-    ∷ handedIn (withP (2 ^ 39) plain) 0
-    ∷ handedIn (withP (2 ^ 39 + 1) plain) 2
-    ∷ handedIn (withQ (2 ^ 39) plain) 0
-    ∷ handedIn (withQ (2 ^ 39 + 1) plain) 2
+    -- sq > n·2^32
+    ∷ handedIn (withSq 0 (1000 * 2 ^ 32) plain) 0
+    ∷ handedIn (withSq 0 (1000 * 2 ^ 32 + 1) plain) 2
+    ∷ handedIn (withSq 0 (2 ^ 64 - 1) (withN (2 ^ 32) plain)) 0
+    ∷ handedIn (withSq 1 0 (withN (2 ^ 32) plain)) 0
+    ∷ handedIn (withSq 1 1 (withN (2 ^ 32) plain)) 2
+    ∷ handedIn (withSq 1 0 (withN (2 ^ 32 - 1) plain)) 2
+    ∷ handedIn (withSq (2 ^ 16) 0 (withN (2 ^ 48) plain)) 0
+    ∷ handedIn (withSq (2 ^ 16) 1 (withN (2 ^ 48) plain)) 2
+    -- P or Q > 2^40
+    ∷ handedIn (withP (2 ^ 40) plain) 0
+    ∷ handedIn (withP (2 ^ 40 + 1) plain) 2
+    ∷ handedIn (withQ (2 ^ 40) plain) 0
+    ∷ handedIn (withQ (2 ^ 40 + 1) plain) 2
+    -- of the offset nothing is said
+    ∷ handedIn (withOffset (pos 32767) plain) 0
+    ∷ handedIn (withOffset (minus 32768) plain) 0
     -- an h_j > I: from the middle on, the last alone, and at the other rates
     ∷ handedIn (withH (replicate 7 0 ++ replicate 8 1600) plain) 0
     ∷ handedIn (withH (replicate 7 0 ++ replicate 8 1601) plain) 2
@@ -168,13 +212,15 @@ table =
     ∷ checked usedNext 1 9
     ∷ checked usedLast 1 9
     -- Q reaches 2^30 exactly: ≥ against >
-    ∷ sampled 1 (pos 9126 ∷ pos 11705 ∷ []) 16052775414 (2 ^ 30) (replicate 5 2 ++ (1 ∷ 1 ∷ replicate 8 0)) 16
+    ∷ sampled (settingOf 1) (pos 9126 ∷ pos 11705 ∷ []) 16052775414 (2 ^ 30) (replicate 5 2 ++ (1 ∷ 1 ∷ replicate 8 0)) 16
     -- two crossings: the lowest is used
     ∷ reported (2 ^ 30) (2 ^ 40) (replicate 4 (2 ^ 30) ++ replicate 11 (2 ^ 14)) (record { L = pos 40960; A = pos 40960; C = pos 19325; F = pos 0; lower = 2; upper = 3; T = 10000 })
     -- the interpolation rounds down
     ∷ reported 16384 (2 ^ 30) (replicate 7 4096 ++ (3000 ∷ replicate 7 0)) (record { L = pos 65536; A = pos 74580; C = pos 52945; F = minus 9044; lower = 6; upper = 7; T = 2164 })
     -- the meter and E over a run of calls
-    ∷ played 1 run (record {
+    ∷ played (settingOf 1) run (record {
+      code = 1;
+      offset = pos 0;
       n = 260;
       s = minus 576360;
       high = 0;
@@ -184,13 +230,29 @@ table =
       a = 260 ∷ 260 ∷ 260 ∷ 260 ∷ 260 ∷ 259 ∷ 258 ∷ 257 ∷ 256 ∷ 253 ∷ 249 ∷ 242 ∷ 229 ∷ 197 ∷ 146 ∷ [];
       h = 0 ∷ 0 ∷ 0 ∷ 0 ∷ 0 ∷ 0 ∷ 0 ∷ 0 ∷ 65 ∷ 82 ∷ 99 ∷ 117 ∷ 136 ∷ 139 ∷ 139 ∷ [];
     })
-    ∷ counted 1 run (threshold 6) 258
-    ∷ counted 1 run (threshold 12) 229
-    ∷ counted 1 run (threshold 13) 197
-    ∷ counted 1 run (threshold 13 + 43) 197
-    ∷ counted 1 run (threshold 14) 146
+    ∷ counted (settingOf 1) run (threshold 6) 258
+    ∷ counted (settingOf 1) run (threshold 12) 229
+    ∷ counted (settingOf 1) run (threshold 13) 197
+    ∷ counted (settingOf 1) run (threshold 13 + 43) 197
+    ∷ counted (settingOf 1) run (threshold 14) 146
+    -- and at an offset, over the same calls
+    ∷ played (offsetBy 1 (pos 300)) run (record {
+      code = 1;
+      offset = pos 300;
+      n = 260;
+      s = minus 576360;
+      high = 0;
+      low = 28276752480;
+      P = 1219213919;
+      Q = 3145318970;
+      a = 260 ∷ 260 ∷ 260 ∷ 260 ∷ 260 ∷ 259 ∷ 258 ∷ 257 ∷ 255 ∷ 253 ∷ 249 ∷ 242 ∷ 229 ∷ 198 ∷ 147 ∷ [];
+      h = 0 ∷ 0 ∷ 0 ∷ 0 ∷ 0 ∷ 0 ∷ 0 ∷ 0 ∷ 12 ∷ 60 ∷ 91 ∷ 113 ∷ 134 ∷ 139 ∷ 139 ∷ [];
+    })
+    ∷ counted (offsetBy 1 (pos 300)) run (threshold 8) 255
+    ∷ counted (offsetBy 1 (pos 300)) run (threshold 13) 198
+    ∷ counted (offsetBy 1 (pos 300)) run (threshold 14 + 43) 147
     -- the two steps of demand 3's level clause
-    ∷ needsTwo 1 (chunk (replicate 44 (pos 5215) ++ (pos 5243 ∷ pos 5256 ∷ pos 5205 ∷ pos 5187 ∷ [])) ∷ []) 103555
+    ∷ needsTwo (settingOf 1) (chunk (replicate 44 (pos 5215) ++ (pos 5243 ∷ pos 5256 ∷ pos 5205 ∷ pos 5187 ∷ [])) ∷ []) 103555
     -- D less one is too small
-    ∷ needsD 1 (replicate 500 (pos 1) ++ (pos 31417 ∷ [])) 1175933558
+    ∷ needsD (settingOf 1) (replicate 500 (pos 1) ++ (pos 31417 ∷ [])) 1175933558
     ∷ []

@@ -35,7 +35,7 @@ fn full(lines: &mut [u8], used: usize) -> usize {
 
 // The longest chunk, and one sample more.
 fn chunks(lines: &mut [u8], used: usize) -> usize {
-    let fresh = Meter::open(Setting { code: 2 }).meter;
+    let fresh = Meter::open(Setting { code: 2, offset: 0 }).meter;
     let samples = silence();
     let used = print::given(
         lines,
@@ -103,7 +103,7 @@ fn reported(lines: &mut [u8], used: usize, n: u64, squares: u64, a: [u64; THRESH
 // A meter at code 2 whose other fields are zero.
 fn handed_in(n: u64, squares: u64, a: [u64; THRESHOLDS]) -> Meter {
     Meter {
-        setting: Setting { code: 2 },
+        setting: Setting { code: 2, offset: 0 },
         state: State {
             sums: Sums {
                 n: Samples::of(n),

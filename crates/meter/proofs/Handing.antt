@@ -49,7 +49,7 @@ usable-as m r answer e a = usable m r (sym e ∙ ap named a)
 
 pub ready : (m : Meter) (r : Rate) (new : ℕ) → Usable m r → new ≤ 4096 → Ready m r new
 unfolding countingOf kOf iOf
-ready m r new u l = record { possible = u .possible-one; by-is = ap countingAt (row-is (m .setting .code) r (u .rate-is)); few = l }
+ready m r new u l = record { possible = u .possible-one; by-is = ap (λ (q : Rate). countingAt q (m .setting .offset)) (row-is (m .setting .code) r (u .rate-is)); few = l }
 
 unusable : (m : Meter) → usableRate m ≡ none → impossible m ≡ true
 unfolding usableRate

@@ -3,7 +3,7 @@ use mathlib.Core.Bool.{cond}
 use mathlib.Core.List.{List}
 use Prim.Native.Nat.{ℕ}
 use lib.Dec.{eqb}
-use lib.IntN.{ℤ}
+use lib.IntN.{ℤ, pos}
 use Rattle.refusal.specs.First.{firstOf}
 use Rattle.block.specs.Block.{samplesIn}
 use Rattle.refusal.specs.Number.{numberGiven}
@@ -42,11 +42,11 @@ fresh c = record { setting = c; state = freshState (iOf c) }
 
 -- the meter of all zeros, beside a refused opening
 unfoldable pub zeroMeter : Meter
-zeroMeter = record { setting = record { code = 0 }; state = freshState 0 }
+zeroMeter = record { setting = record { code = 0; offset = pos 0 }; state = freshState 0 }
 
--- what counting goes by: the rate's K and I
+-- what counting goes by: the rate's K and I, and the offset
 unfoldable pub countingOf : Setting → Counting
-countingOf c = record { k = kOf c; i = iOf c }
+countingOf c = record { k = kOf c; i = iOf c; offset = c .offset }
 
 -- the meter after samples in order
 unfoldable pub afterSamples : Meter → List ℤ → Meter

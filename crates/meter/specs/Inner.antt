@@ -44,14 +44,14 @@ pub record Followed (m : Meter) (r : Rate) (b part : List ℕ) : Type 0 where
   pub fits : sound b ≡ true
   pub part-is : part ≡ samplesPart b
 
--- what counting goes by at a rate
-abbrev pub countingAt : Rate → Counting
-countingAt r = record { k = r .k; i = r .i }
+-- what counting goes by at a rate and an offset
+abbrev pub countingAt : Rate → (offset : ℤ) → Counting
+countingAt r offset = record { k = r .k; i = r .i; offset = offset }
 
 -- a meter, with its rate, that new samples may be given to
 pub record Ready (m : Meter) (r : Rate) (new : ℕ) : Type 0 where
   pub possible : impossible m ≡ false
-  pub by-is : countingOf (m .setting) ≡ countingAt r
+  pub by-is : countingOf (m .setting) ≡ countingAt r (m .setting .offset)
   pub few : new ≤ 4096
 
 -- what a call hands back, refused with a number

@@ -26,4 +26,4 @@ Fresh c m = Untouched c (iOf c) m
 
 -- the meter beside a refused opening: all zeros
 abbrev pub Zeros : Meter → Type 0
-Zeros m = Untouched (record { code = 0 }) 0 m
+Zeros m = Untouched (record { code = 0; offset = pos 0 }) 0 m

@@ -36,10 +36,10 @@ abbrev pub sumBound : ℕ
 sumBound = 2 ^ 15
 
 abbrev pub squareBound : ℕ
-squareBound = 2 ^ 30
+squareBound = 2 ^ 32
 
 abbrev pub envelopeBound : ℕ
-envelopeBound = 2 ^ 39
+envelopeBound = 2 ^ 40
 
 -- 2, the sums: n > 2^48
 unfoldable pub manySamples : Sums → Bool
@@ -49,11 +49,11 @@ manySamples m = ltb mostSamples (m .n .0)
 unfoldable pub largeSum : Sums → Bool
 largeSum m = ltb (m .n .0 * sumBound) (natAbs (m .s))
 
--- sq > n·2^30
+-- sq > n·2^32
 unfoldable pub largeSquares : Sums → Bool
 largeSquares m = ltb (m .n .0 * squareBound) (twoWords (m .sq))
 
--- P or Q > 2^39
+-- P or Q > 2^40
 unfoldable pub largeP : Sums → Bool
 largeP m = ltb envelopeBound (m .p)
 

@@ -93,6 +93,7 @@ pub(crate) fn feed(meter: Meter, rate: Rate, xs: &[i16]) -> Fed
     let by = Counting {
         k: rate.k,
         i: rate.i,
+        offset: setting.offset,
     };
     let state = meter.state.after(by, xs);
     Fed {

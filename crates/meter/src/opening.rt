@@ -27,7 +27,7 @@ impl Meter {
             },
             Named::Nothing => Fed {
                 answer: Answer::Refused(Refusal::UnnamedRate),
-                meter: fresh(Setting { code: 0 }, 0),
+                meter: fresh(Setting { code: 0, offset: 0 }, 0),
             },
         }
     }

@@ -19,12 +19,12 @@ use sample::Sums;
 // The bounds of |s| and of sq for each sample, and of P and Q.
 const SUM_BOUND: u64 = 1 << 15;
 
-const SQUARE_BOUND: u64 = 1 << 30;
+const SQUARE_BOUND: u64 = 1 << 32;
 
-const ENVELOPE_BOUND: u64 = 1 << 39;
+const ENVELOPE_BOUND: u64 = 1 << 40;
 
 // So many samples' bounds of sq make one of the high word.
-const SAMPLES_A_WORD: u64 = 1 << 34;
+const SAMPLES_A_WORD: u64 = 1 << 32;
 
 // The rate of a meter that a measurement could hold; of any other, none.
 pub(crate) fn rate(m: Meter) -> Named
@@ -65,7 +65,7 @@ fn impossible_sums(sums: Sums) -> bool
     ENVELOPE_BOUND < sums.q
 }
 
-// n·2^30 in two words.
+// n·2^32 in two words.
 fn square_bound(n: u64) -> Squares
     ensures { λ r. ⌜ twoWords r ≡ n * squareBound ⌝ }
 {

@@ -11,17 +11,24 @@ use meter::Reported;
 use refusal::Answer;
 use sample::Sums;
 
-// A line with `meter` and its 37 values: the code, n, s, sq high, sq low, P, Q, the a_j, the h_j.
+// A line with `meter` and its 38 values: the code, the offset, n, s, sq high, sq low, P, Q, the a_j, the
+// h_j.
 pub fn meter(line: &mut [u8], used: usize, meter: Meter) -> usize {
     let sums = meter.state.sums;
     let a = meter.state.a;
     let h = meter.state.h;
     let used = text::words(line, used, b"meter");
     let used = text::spaced(line, used, meter.setting.code as u64);
+    let used = spaced_sample(line, used, meter.setting.offset);
     let used = followed(line, used, sums);
     let used = counts(line, used, a);
     let used = text::numbers(line, used, &h);
     text::end_of_line(line, used)
+}
+
+// A space and a sample's value.
+fn spaced_sample(line: &mut [u8], used: usize, x: i16) -> usize {
+    text::spaced_signed(line, used, x as i64)
 }
 
 // n, s, sq high, sq low, P and Q, each after a space.

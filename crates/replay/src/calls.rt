@@ -22,7 +22,7 @@ pub struct Answer {
 pub fn answered(record: &[u8], meter: Meter, samples: &mut [i16], line: &mut [u8]) -> Answer {
     let code = block::one_byte(record, 1) as u32;
     match block::one_byte(record, 0) {
-        1 => told(line, b"open", Meter::open(Setting { code })),
+        1 => told(line, b"open", Meter::open(setting(record))),
         2 => chunk(record, meter, samples, line),
         3 => told(line, b"block", meter.block(after(record, 3))),
         4 => report(meter, line),
@@ -71,30 +71,38 @@ fn report(meter: Meter, line: &mut [u8]) -> Answer {
     }
 }
 
+// 1 and 5: what a meter is opened with.
+fn setting(record: &[u8]) -> Setting {
+    let mut offset = [0i16; 1];
+    block::decode(after(record, 2), &mut offset);
+    Setting {
+        code: block::one_byte(record, 1) as u32,
+        offset: offset[0],
+    }
+}
+
 // 5: a meter to go on with.
 fn loaded(record: &[u8]) -> Meter {
     Meter {
-        setting: Setting {
-            code: block::one_byte(record, 1) as u32,
-        },
+        setting: setting(record),
         state: State {
             sums: sums(record),
-            a: sample::counts(numbers(record, 50)),
-            h: numbers(record, 170),
+            a: sample::counts(numbers(record, 52)),
+            h: numbers(record, 172),
         },
     }
 }
 
 fn sums(record: &[u8]) -> Sums {
     Sums {
-        n: Samples::of(block::eight_bytes(record, 2)),
-        s: signed(block::eight_bytes(record, 10)),
+        n: Samples::of(block::eight_bytes(record, 4)),
+        s: signed(block::eight_bytes(record, 12)),
         sq: Squares {
-            high: block::eight_bytes(record, 18),
-            low: block::eight_bytes(record, 26),
+            high: block::eight_bytes(record, 20),
+            low: block::eight_bytes(record, 28),
         },
-        p: block::eight_bytes(record, 34),
-        q: block::eight_bytes(record, 42),
+        p: block::eight_bytes(record, 36),
+        q: block::eight_bytes(record, 44),
     }
 }
 
@@ -110,7 +118,7 @@ fn signed(word: u64) -> i64
 
 // A number of eight bytes for each threshold, from a place on.
 fn numbers(record: &[u8], from: usize) -> [u64; THRESHOLDS]
-    requires { ⌜ from ≤ 170 ⌝ }
+    requires { ⌜ from ≤ 172 ⌝ }
 {
     let mut numbers = [0u64; THRESHOLDS];
     let mut j = 0;

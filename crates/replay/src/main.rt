@@ -2,17 +2,17 @@
 //
 // A record is a byte for its kind and then the fields of that kind, numbers little-endian:
 //
-//   1 open     code u8                         prints `open r`
+//   1 open     code u8, offset i16             prints `open r`
 //   2 chunk    count u16, count samples i16    prints `chunk r`
 //   3 block    length u16, bytes               prints `block r`
 //   4 report                                   prints `report 0` and the report's 26 values, or `report r`
-//   5 load     the 37 values of a meter        prints `load`
-//   6 show                                     prints `meter` and the 37 values
+//   5 load     the 38 values of a meter        prints `load`
+//   6 show                                     prints `meter` and the 38 values
 //   7 lev      high u64, low u64               prints `lev v`, or `lev none`
 //   8 check    code u8, length u16, bytes      prints `check r`, the C host's answer
 //
-// r is the refusal's number, or 0. The 37 values are the code u8 and then, eight bytes
-// each, n, s, sq high, sq low, P, Q, the fifteen a_j and the fifteen h_j. A report's 26 values are its n, s,
+// r is the refusal's number, or 0. The 38 values are the code u8, the offset i16 and then, eight bytes each,
+// n, s, sq high, sq low, P, Q, the fifteen a_j and the fifteen h_j. A report's 26 values are its n, s,
 // sq high, sq low, the fifteen a_j, L, A, C, F, the lower and upper j, and T. The run starts with a meter of
 // all zeros; open and load replace it. A record that is cut short, or of another kind, ends the run with
 // the line `bad record k`, where k is its number, from 1; standard error says where it starts and what is
@@ -58,7 +58,7 @@ fn main() {
 
 // Plays all records.
 fn played(bytes: &mut [u8], samples: &mut [i16], line: &mut [u8], lines: &mut [u8]) {
-    let mut meter = Meter::open(Setting { code: 0 }).meter;
+    let mut meter = Meter::open(Setting { code: 0, offset: 0 }).meter;
     let mut streams = Streams::new();
     let mut k: u64 = 1;
     while k < u64::MAX {
@@ -87,14 +87,26 @@ fn turn(
     lines: &mut [u8],
 ) -> Run {
     let begun = records::read(streams, bytes, lines);
-    let going = records::judged(bytes, begun);
+    tried(meter, begun, bytes, samples, line, lines)
+}
+
+// Plays the record ahead, where it can be played.
+fn tried(
+    meter: Meter,
+    streams: Streams,
+    bytes: &mut [u8],
+    samples: &mut [i16],
+    line: &mut [u8],
+    lines: &mut [u8],
+) -> Run {
+    let going = records::judged(bytes, streams);
     match going {
-        Going::On => answered(meter, begun, bytes, samples, line, lines),
+        Going::On => answered(meter, streams, bytes, samples, line, lines),
         Going::Ended | Going::Unknown(_) | Going::Cut => {
-            let source = begun.source;
+            let source = streams.source;
             Run {
                 meter,
-                streams: begun,
+                streams,
                 place: source.place(),
                 going,
             }

@@ -15,11 +15,11 @@ use Rattle.sample.specs.declared.Counting.{Counting}
 use Rattle.sample.specs.declared.Sums.{Sums}
 use Rattle.sample.specs.declared.State.{State}
 use Rattle.sample.specs.declared.step.Moving.{Moving}
-use Rattle.sample.specs.Envelope.{smoothing, threshold}
+use Rattle.sample.specs.Envelope.{threshold}
 use Rattle.sample.specs.Sample.{summed, counts, hangovers, stateAfterOne, stateAfter}
 use Rattle.sample.specs.Inner.Steps.{moved, ended, Room}
 use Rattle.sample.specs.Inner.Runs.{plainCounts, countsBy, hangoversBy, Clear, stateOf, led, ledBy, Runnable, Ran}
-use Rattle.sample.proofs.Moved.{up-to, ended-at, room-less, room-after}
+use Rattle.sample.proofs.Moved.{Sized, up-to, ended-at, room-less, room-after}
 use Rattle.sample.proofs.Over.{same-side, one-counts, one-hangovers}
 use Rattle.sample.proofs.Numbers.{counts-plain}
 
@@ -27,7 +27,7 @@ split : (xs : List ℤ) (i : ℕ) → i < length xs → drop i xs ≡ getD xs i 
 split xs i h = rw add-one (drop-cons xs i (pos 0) h)
 
 -- a sample of the definition goes into the sums first
-pub step-is : (by : Counting) (m r : Sums) (a h : List ℕ) (xs : List ℤ) (i : ℕ) → i < length xs → r ≡ summed (by .k) m (getD xs i (pos 0))
+pub step-is : (by : Counting) (m r : Sums) (a h : List ℕ) (xs : List ℤ) (i : ℕ) → i < length xs → r ≡ summed by m (getD xs i (pos 0))
     → stateAfter by (stateOf m a h) (drop i xs) ≡ led by r a h (drop i xs)
 unfolding stateAfter stateAfterOne led
 step-is by m r a h xs i l e =
@@ -92,15 +92,15 @@ pub room-for-one : {by : Counting} {low high : ℕ} {m : Moving} {xs : List ℤ}
 room-for-one {xs = xs} {r = r} {i = i} g l = room-less 1 (length xs - i) r (omega arith) (g .room)
 
 -- the sample at index i, in what moves
-module _ (by : Counting) (low high : ℕ) (m : Moving) (xs : List ℤ) (at : ℕ) (k : by .k ≤ smoothing) (r s : Moving) (i : ℕ) (g : Going by low high m xs at r i)
-    (l : i < length xs) (f : SFits w16 (getD xs i (pos 0))) (e : s ≡ moved (by .k) r (getD xs i (pos 0))) where
+module _ (by : Counting) (low high : ℕ) (m : Moving) (xs : List ℤ) (at : ℕ) (k : Sized by) (r s : Moving) (i : ℕ) (g : Going by low high m xs at r i)
+    (l : i < length xs) (f : SFits w16 (getD xs i (pos 0))) (e : s ≡ moved by r (getD xs i (pos 0))) where
   kept : Room (length xs - (i + 1)) s
-  kept = room-after (by .k) r s _ i (length xs) l k f e (g .room)
+  kept = room-after by r s _ i (length xs) l k f e (g .room)
 
   stepped : (b : Sums) (Q : ℕ) (since a h : List ℕ) → stateAfter by (standingAt by b r Q i since a h) (drop i xs) ≡ ledBy by b s Q i since a h xs
   stepped b Q since a h =
       step-is by (ended b r i) (ended b s (min (i + 1) (length xs))) (countsBy threshold thresholds (by .i) Q i since a h) (hangoversBy threshold thresholds (by .i) Q i since h) xs i l
-      (ended-at (by .k) b r s _ i (length xs) l e)
+      (ended-at by b r s _ i (length xs) l e)
 
   -- it may end the run
   pub gone-out : Ran by low high m xs at s i

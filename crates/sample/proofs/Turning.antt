@@ -15,13 +15,13 @@ use Rattle.level.specs.Types.{thresholds}
 use Rattle.sample.specs.declared.Counting.{Counting}
 use Rattle.sample.specs.declared.Sums.{Sums}
 use Rattle.sample.specs.declared.step.Moving.{Moving}
-use Rattle.sample.specs.Envelope.{smoothing, threshold}
+use Rattle.sample.specs.Envelope.{threshold}
 use Rattle.sample.specs.Sample.{mostSamples, each, summed, stateAfter}
 use Rattle.sample.specs.Inner.Steps.{begun, moved, ended, Room}
 use Rattle.sample.specs.Inner.Runs.{countOver, hangoverOver, countsBy, hangoversBy, Standing, Settled, between, Around, stateOf, led, ledBy, Ran}
 use Rattle.sample.proofs.Places.{list-length, each-at, each-same, is-each, at-or-past}
 use Rattle.sample.proofs.Over.{no-count, no-hangover}
-use Rattle.sample.proofs.Moved.{ended-none, ended-at, up-to-end, room-less, room-after}
+use Rattle.sample.proofs.Moved.{Sized, ended-none, ended-at, up-to-end, room-less, room-after}
 use Rattle.sample.proofs.Ran.{none-left, step-is}
 use Rattle.sample.proofs.Settling.{between-in, stands-count, stands-hangover, index-le, count-le, hangover-le}
 
@@ -62,10 +62,10 @@ module _ (I Q : ℕ) (a h : List ℕ) (la : thresholds ≡ length a) (lh : thres
   at-first-hangovers = is-each 0 thresholds h _ lh (λ j l. sym (no-hangover I (leb (threshold j) Q) _ (getD h j 0) (none-since j)))
 
 -- the first sample, and room for it and the others
-module _ (by : Counting) (b : Sums) (m : Moving) (xs : List ℤ) (some : 0 < length xs) (k : by .k ≤ smoothing) (f : SFits w16 (getD xs 0 (pos 0)))
-    (e : m ≡ moved (by .k) (begun b) (getD xs 0 (pos 0))) (r : Room (length xs) (begun b)) where
+module _ (by : Counting) (b : Sums) (m : Moving) (xs : List ℤ) (some : 0 < length xs) (k : Sized by) (f : SFits w16 (getD xs 0 (pos 0)))
+    (e : m ≡ moved by (begun b) (getD xs 0 (pos 0))) (r : Room (length xs) (begun b)) where
   pub first-room : Room (length xs - 1) m
-  first-room = room-after (by .k) (begun b) m _ 0 (length xs) some k f e (room-less _ _ (begun b) (omega arith) r)
+  first-room = room-after by (begun b) m _ 0 (length xs) some k f e (room-less _ _ (begun b) (omega arith) r)
 
   pub started : (a h : List ℕ) (low high below : ℕ) → b .sq .low < 2 ^ 64 → thresholds ≡ length a → thresholds ≡ length h
       → ((j : ℕ) → getD a j 0 ≤ b .n .0) → ((j : ℕ) → getD h j 0 ≤ by .i) → Around threshold thresholds (m .q) low high below
@@ -85,7 +85,7 @@ module _ (by : Counting) (b : Sums) (m : Moving) (xs : List ℤ) (some : 0 < len
         rest =
             ap₂ (λ (x y : List ℕ). led by (ended b m (min (0 + 1) (length xs))) x y xs) (sym (at-first-counts (by .i) low a h la lh)) (sym (at-first-hangovers (by .i) low a h la lh))
             ∙ sym (step-is by b (ended b m (min (0 + 1) (length xs))) a h xs 0 some
-            (ended-at (by .k) b (begun b) m _ 0 (length xs) some e ∙ ap (λ (t : Sums). summed (by .k) t (getD xs 0 (pos 0))) (ended-none b fits)));
+            (ended-at by b (begun b) m _ 0 (length xs) some e ∙ ap (λ (t : Sums). summed by t (getD xs 0 (pos 0))) (ended-none b fits)));
       }
 
 module _ (by : Counting) (b : Sums) (a₀ h₀ : List ℕ) (xs : List ℤ) (a h since : List ℕ) (m : Moving) (low high below at : ℕ) (t : Turning by b a₀ h₀ xs a h since m low high below at)

@@ -1,6 +1,6 @@
 -- The envelope and its thresholds: METHOD.md, "One sample".
 use Prim.Native.Nat.{ℕ, _+_, _-_, _*_, _/_, _^_}
-use lib.IntN.{ℤ, natAbs}
+use lib.IntN.{ℤ, natAbs, _-ℤ_}
 
 -- K is in parts of this
 abbrev pub smoothing : ℕ
@@ -14,9 +14,13 @@ interval = 2 ^ 24
 unfoldable pub smooth : (K old new : ℕ) → ℕ
 smooth K old new = (old * (smoothing - K) + new * K) / smoothing
 
--- |x| in units of 2^−24 quantizing interval
-unfoldable pub rectified : ℤ → ℕ
-rectified x = natAbs x * interval
+-- |x − o|, the size of a sample x at an offset o
+unfoldable pub size : (o x : ℤ) → ℕ
+size o x = natAbs (x -ℤ o)
+
+-- that in units of 2^−24 quantizing interval
+unfoldable pub rectified : (o x : ℤ) → ℕ
+rectified o x = size o x * interval
 
 -- threshold c_j in units
 unfoldable pub threshold : ℕ → ℕ

@@ -2,7 +2,7 @@
 use mathlib.Core.List.{List, [], _∷_}
 use Prim.Native.Nat.{ℕ, zero, suc, _+_, _*_, _^_}
 use lib.Dec.{leb}
-use lib.IntN.{ℤ, pos, natAbs, _+ℤ_}
+use lib.IntN.{ℤ, pos, _+ℤ_}
 use lib.ListN.{getD}
 use Rattle.level.specs.Types.{samplesOf, thresholds, activity, twoWords, words}
 use Rattle.level.specs.declared.Samples.{Samples}
@@ -10,7 +10,7 @@ use Rattle.sample.specs.declared.Counting.{Counting}
 use Rattle.sample.specs.declared.Sums.{Sums}
 use Rattle.sample.specs.declared.State.{State}
 use Rattle.sample.specs.Activity.{counted, hung}
-use Rattle.sample.specs.Envelope.{smooth, rectified, threshold}
+use Rattle.sample.specs.Envelope.{smooth, size, rectified, threshold}
 
 -- the most samples that a measurement may hold
 abbrev pub mostSamples : ℕ
@@ -34,16 +34,16 @@ freshState I =
       h = each thresholds (λ j. I);
     }
 
--- the sums after a sample x. Q is fed the new P
-unfoldable pub summed : (K : ℕ) → Sums → ℤ → Sums
-summed K m x =
-    let P = smooth K (m .p) (rectified x) in
+-- the sums after a sample x. s sums up raw samples, sq and P are of x − o; Q is fed the new P
+unfoldable pub summed : Counting → Sums → ℤ → Sums
+summed by m x =
+    let P = smooth (by .k) (m .p) (rectified (by .offset) x) in
     record {
       n = samplesOf (m .n .0 + 1);
       s = m .s +ℤ x;
-      sq = words (twoWords (m .sq) + natAbs x * natAbs x);
+      sq = words (twoWords (m .sq) + size (by .offset) x * size (by .offset) x);
       p = P;
-      q = smooth K (m .q) P;
+      q = smooth (by .k) (m .q) P;
     }
 
 -- the counts and the hangovers at k thresholds c after a sample that left the envelope at Q
@@ -56,7 +56,7 @@ hangovers c k I Q h = each k (λ j. hung I (leb (c j) Q) (getD h j 0))
 -- all of it after a sample x
 unfoldable pub stateAfterOne : Counting → State → ℤ → State
 stateAfterOne by m x =
-    let sums = summed (by .k) (m .sums) x in
+    let sums = summed by (m .sums) x in
     record {
       sums = sums;
       a = counts threshold thresholds (by .i) (sums .q) (m .a) (m .h);

@@ -23,10 +23,11 @@ use level::THRESHOLDS;
 // The most samples that a measurement may hold.
 pub const MOST_SAMPLES: u64 = 1 << 48;
 
-// What counting goes by: the rate's K and I.
+// What counting goes by: the rate's K and I, and the offset.
 pub struct Counting {
     pub k: u64,
     pub i: u64,
+    pub offset: i16,
 }
 
 // n, s, sq, P and Q.

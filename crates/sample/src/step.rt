@@ -25,9 +25,9 @@ impl Moving {
     // After a sample.
     pub fn step(self, by: Counting, x: i16) -> Moving
         requires { ⌜ Steppable (by .k) self ⌝ }
-        ensures { λ r. ⌜ r ≡ moved (by .k) self x ⌝ }
+        ensures { λ r. ⌜ r ≡ moved by self x ⌝ }
     {
-        let size = rectified(x);
+        let size = rectified(by.offset, x);
         let p = smoothed(by.k, self.p, size * INTERVAL);
         let q = smoothed(by.k, self.q, p);
         Moving {
@@ -68,11 +68,13 @@ impl Sums {
     }
 }
 
-// |x|, in a wider type: in 16 bits −32768 has none.
-fn rectified(x: i16) -> u64
-    ensures { λ r. ⌜ Rectified x r ⌝ }
+// |x − o|, in a wider type: it reaches 65535.
+fn rectified(offset: i16, x: i16) -> u64
+    ensures { λ r. ⌜ Rectified offset x r ⌝ }
 {
-    signed::magnitude(x as i64)
+    let from = offset as i64;
+    let wide = x as i64;
+    signed::magnitude(wide - from)
 }
 
 // One step of smoothing, rounded down.

@@ -3,4 +3,6 @@
 pub struct Setting {
     // The rate code.
     pub code: u32,
+    // The offset o: what the line card's converter gives for silence.
+    pub offset: i16,
 }

@@ -7,7 +7,12 @@ use crate::meter::{Meter, M, MOST_SAMPLES};
 use crate::rate::rate;
 
 /// The bound of P and Q.
-const MOST_ENVELOPE: u64 = 1 << 39;
+const MOST_ENVELOPE: u64 = 1 << 40;
+
+/// The bound of sq at n samples.
+pub fn most_squares(n: u64) -> u128 {
+    u128::from(n) << 32
+}
 
 /// Counts that never rise, from one no larger than n.
 fn falling(random: &mut Random, n: u64) -> [u64; 15] {
@@ -42,12 +47,13 @@ pub fn plausible(random: &mut Random, code: u8) -> Meter {
     let bits = random.between(1, 48);
     let n = random.of_length(bits) as u64;
     let s = random.between(0, n << 15) as i64;
-    let bits = random.between(1, 78);
+    let bits = random.between(1, 80);
     Meter {
         code,
+        offset: random.offset(),
         n,
         s: random.pick(&[s, -s]),
-        sq: random.of_length(bits).min(u128::from(n) << 30),
+        sq: random.of_length(bits).min(most_squares(n)),
         P: random.between(0, MOST_ENVELOPE),
         Q: random.between(0, MOST_ENVELOPE),
         a: falling(random, n),
@@ -62,7 +68,7 @@ pub fn tuned(random: &mut Random, code: u8) -> Meter {
     let a_j = random.of_length(bits) as u64;
     let level = steps(u128::from(a_j)).expect("a_j is above 0");
     let sq = least_of_level(level + 8192 * j as i64 + M - 1 + random.below(3) as i64);
-    let n = a_j.max((sq >> 30) as u64 + 1) + random.below(1000);
+    let n = a_j.max((sq >> 32) as u64 + 1) + random.below(1000);
     let mut a = [a_j / random.pick(&[1, 2, 16, 1 << 31]); 15];
     a[..=j].fill(a_j);
     Meter {
@@ -74,7 +80,7 @@ pub fn tuned(random: &mut Random, code: u8) -> Meter {
     }
 }
 
-/// A meter of this F, 0 or below, at a crossing anywhere up to the threshold of j = 12.
+/// A meter of this F, 0 or below, at a crossing anywhere up to the threshold of j = 13.
 ///
 /// A_j is the same for every j, so that F is lev(a_j) - lev(n). Down to -60000 there is always such
 /// an a_j, since n has at least 30 bits; where F is too low for n, a_j is 1.
@@ -82,7 +88,7 @@ pub fn of_factor(random: &mut Random, code: u8, F: i64) -> Meter {
     let bits = random.between(30, 48);
     let n = random.of_length(bits);
     let a_j = least_of_level(steps(n).expect("n is above 0") + F);
-    let above = M + random.between(0, 8192 * 12) as i64;
+    let above = M + random.between(0, 8192 * 13) as i64;
     let sq = least_of_level(steps(a_j).expect("a_j is above 0") + above);
     Meter {
         n: n as u64,
@@ -110,12 +116,14 @@ fn least_of_level(level: i64) -> u128 {
 /// Meters at and just past each bound of refusal 2.
 pub fn bounds(random: &mut Random, code: u8) -> Vec<Meter> {
     let mut meters = codes(random, code);
+    meters.extend(offsets(random, code));
     meters.extend(totals(random, code));
     meters.extend(full_totals(random, code));
+    meters.extend(squares_of_two_words(random, code));
     meters.extend(envelopes(random, code));
     meters.extend(counts(random, code));
     meters.extend(hangovers(random, code));
-    meters.extend(unstarted(code));
+    meters.extend(unstarted(random, code));
     meters
 }
 
@@ -126,6 +134,26 @@ fn codes(random: &mut Random, code: u8) -> Vec<Meter> {
         ..plausible(random, code)
     };
     [code, 0, 4, 5, 255].into_iter().map(with).collect()
+}
+
+/// Offsets, of which refusal 2 says nothing: where totals and envelopes are at their bounds, and
+/// where they are not.
+fn offsets(random: &mut Random, code: u8) -> Vec<Meter> {
+    let mut meters = Vec::new();
+    for offset in [i16::MIN, -1, 0, 1, i16::MAX] {
+        let meter = plausible(random, code);
+        meters.push(Meter {
+            offset,
+            s: (meter.n << 15) as i64,
+            sq: most_squares(meter.n),
+            P: MOST_ENVELOPE,
+            Q: MOST_ENVELOPE,
+            a: [meter.n; 15],
+            ..meter
+        });
+        meters.push(Meter { offset, ..meter });
+    }
+    meters
 }
 
 /// n, s and sq.
@@ -148,7 +176,7 @@ fn totals(random: &mut Random, code: u8) -> Vec<Meter> {
     for more in [0, 1] {
         let meter = plausible(random, code);
         meters.push(Meter {
-            sq: (u128::from(meter.n) << 30) + more,
+            sq: most_squares(meter.n) + more,
             ..meter
         });
     }
@@ -177,7 +205,7 @@ fn full_totals(random: &mut Random, code: u8) -> Vec<Meter> {
                 ..plausible(random, code)
             });
         }
-        for sq in [(1 << 78) - (1 << 30), 1 << 78, (1 << 78) + 1] {
+        for sq in [most_squares(n) - 1, most_squares(n), most_squares(n) + 1] {
             meters.push(Meter {
                 n,
                 sq,
@@ -189,6 +217,23 @@ fn full_totals(random: &mut Random, code: u8) -> Vec<Meter> {
         s: i64::MIN,
         ..plausible(random, code)
     });
+    meters
+}
+
+/// sq at its bound and just past it, where the bound grows out of one word.
+fn squares_of_two_words(random: &mut Random, code: u8) -> Vec<Meter> {
+    let mut meters = Vec::new();
+    for n in [(1 << 32) - 1, 1 << 32, (1 << 32) + 1] {
+        for more in [0, 1] {
+            meters.push(Meter {
+                n,
+                s: 0,
+                sq: most_squares(n) + more,
+                a: falling(random, n),
+                ..plausible(random, code)
+            });
+        }
+    }
     meters
 }
 
@@ -262,8 +307,8 @@ fn hangovers(random: &mut Random, code: u8) -> Vec<Meter> {
 }
 
 /// Meters of no samples, of which only the envelopes may be above 0.
-fn unstarted(code: u8) -> Vec<Meter> {
-    let (fresh, _) = Meter::open(code);
+fn unstarted(random: &mut Random, code: u8) -> Vec<Meter> {
+    let (fresh, _) = Meter::open(code, random.offset());
     let mut counted = fresh.clone();
     counted.a[0] = 1;
     vec![

@@ -1,9 +1,9 @@
 //! Long scripts of calls on one line.
 
-use super::bounds::{bounds, of_factor, plausible, tuned};
+use super::bounds::{bounds, most_squares, of_factor, plausible, tuned};
 use super::random::Random;
 use super::script::Script;
-use super::signals::{noise, signal};
+use super::signals::{around, furthest, noise, placed, signal};
 use crate::meter::{Meter, MOST_IN_CHUNK, MOST_SAMPLES};
 use crate::percent::{difference, WHOLE};
 use crate::rate::rate;
@@ -26,10 +26,12 @@ pub fn calls(seed: u64, count: u64) -> Vec<u8> {
 
 /// Hands a meter in and makes each kind of call on it.
 fn tried(script: &mut Script, meter: Meter) {
+    let furthest = furthest(meter.offset);
     script.add(Record::Load(meter));
     script.add(Record::Report);
     script.add(Record::Chunk(Vec::new()));
-    let sample = script.random.sample(32768);
+    let any = script.random.sample(32768);
+    let sample = script.random.pick(&[any, furthest]);
     script.add(Record::Chunk(vec![sample]));
     script.add(Record::Show);
     let bytes = script.fitting(2);
@@ -74,18 +76,21 @@ fn hangover(script: &Script) -> u64 {
     rate(u32::from(script.meter().code)).map_or(139, |rate| rate.I)
 }
 
-/// An opening, mostly with a named code.
+/// An opening, mostly with a named code, and what it leaves.
 fn open(script: &mut Script) {
     let code = script
         .random
         .pick(&[1, 1, 1, 2, 2, 2, 3, 3, 3, 0, 4, 5, 255]);
-    script.add(Record::Open(code));
+    let offset = script.random.offset();
+    script.add(Record::Open(code, offset));
+    script.add(Record::Show);
 }
 
 /// Samples of some signal.
 fn samples(script: &mut Script, length: usize) -> Vec<i16> {
-    let I = hangover(script);
-    signal(&mut script.random, I, length)
+    let (I, offset) = (hangover(script), script.meter().offset);
+    let samples = signal(&mut script.random, I, length);
+    placed(&mut script.random, offset, samples)
 }
 
 /// A chunk of any length, seldom too long.
@@ -132,13 +137,14 @@ fn refused_block(script: &mut Script) {
 
 /// Noise, then a silence that outlasts envelope and hangover.
 fn bursts(script: &mut Script) {
-    let I = hangover(script);
+    let (I, offset) = (hangover(script), script.meter().offset);
     let length = script.random.between(1, I) as usize;
-    let burst = noise(&mut script.random, length);
+    let noise = noise(&mut script.random, length);
+    let burst = placed(&mut script.random, offset, noise);
     script.add(Record::Chunk(burst));
     let pause = MOST_IN_CHUNK.min(2 * I as usize);
     for _ in 0..3 {
-        script.add(Record::Chunk(vec![0; pause]));
+        script.add(Record::Chunk(vec![offset; pause]));
         script.add(Record::Show);
     }
     script.add(Record::Report);
@@ -146,19 +152,21 @@ fn bursts(script: &mut Script) {
 
 /// The two samples that bring Q to a threshold exactly, together or apart.
 fn pair(script: &mut Script) {
-    script.add(Record::Open(1));
+    let offset = script.random.offset();
+    let pair = around(offset, &[9126, 11705]);
+    script.add(Record::Open(1, offset));
     if script.random.once_in(2) {
-        script.add(Record::Chunk(vec![9126, 11705]));
+        script.add(Record::Chunk(pair));
     } else {
-        script.add(Record::Chunk(vec![9126]));
+        script.add(Record::Chunk(vec![pair[0]]));
         script.add(Record::Show);
-        script.add(Record::Chunk(vec![11705]));
+        script.add(Record::Chunk(vec![pair[1]]));
     }
     script.add(Record::Show);
     script.add(Record::Report);
 }
 
-/// A meter whose sq is just below 2^64, and samples that bring it past.
+/// A meter whose sq is just below 2^64, and samples that bring it past, whatever the offset.
 fn two_words(script: &mut Script) {
     let code = named(script);
     let n = (1 << 34) + script.random.below(1 << 34);
@@ -185,7 +193,7 @@ fn nearly_full(script: &mut Script, k: u64) -> Meter {
     let meter = plausible(&mut script.random, code);
     let n = MOST_SAMPLES - k;
     let most = i128::from(n) << 15;
-    let full = u128::from(n) << 30;
+    let full = most_squares(n);
     match script.random.below(3) {
         0 => Meter {
             n,

@@ -2,7 +2,9 @@
 
 use super::random::Random;
 use super::script::Script;
-use super::signals::{full_scale, grazing, hum_and_shout, noise_within, signal};
+use super::signals::{
+    around, full_scale, furthest, grazing, hum_and_shout, noise_within, placed, signal,
+};
 use crate::block;
 use crate::rate::{Rate, RATES};
 use crate::records::Record;
@@ -15,8 +17,9 @@ const TOTAL: usize = 600;
 pub fn list(seed: u64, count: u64) -> Vec<u8> {
     let mut script = Script::new(seed);
     let rate = &RATES[script.random.pick(&[0, 0, 0, 0, 1, 2])];
-    script.add(Record::Open(rate.code));
-    let samples = samples(&mut script.random, rate, seed);
+    let offset = offset(&mut script.random, seed);
+    script.add(Record::Open(rate.code, offset));
+    let samples = samples(&mut script.random, rate, offset, seed);
     let mut rest = &samples[..];
     for _ in 0..count {
         if script.random.once_in(4) {
@@ -30,24 +33,39 @@ pub fn list(seed: u64, count: u64) -> Vec<u8> {
     script.bytes
 }
 
+/// The offset of a list; one seed in four has it at an end of the range.
+fn offset(random: &mut Random, seed: u64) -> i16 {
+    if seed % 4 == 0 {
+        random.pick(&[i16::MIN, i16::MAX])
+    } else {
+        random.offset()
+    }
+}
+
 /// The samples of a list. One seed in three is for one answer of a report, each in its turn: for
 /// refusals 12 to 16, then for two crossings and for speech. The others have any samples.
-fn samples(random: &mut Random, rate: &Rate, seed: u64) -> Vec<i16> {
+fn samples(random: &mut Random, rate: &Rate, offset: i16, seed: u64) -> Vec<i16> {
     if seed % 3 != 0 {
-        return any_samples(random, rate);
+        return any_samples(random, rate, offset);
     }
-    match seed / 3 % 7 {
+    let samples = match seed / 3 % 7 {
         0 => Vec::new(),
         1 => vec![0; TOTAL],
         2 => noise_within(random, 1, TOTAL),
         3 => noise_within(random, 6, TOTAL),
-        4 => {
-            let few = random.between(1, 8) as usize;
-            full_scale(random, few)
-        }
+        4 => return loud(random, offset),
         5 => hum_and_shout(random),
         _ => spoken(random, rate),
-    }
+    };
+    around(offset, &samples)
+}
+
+/// A few of the loudest samples, the last of them as far from the offset as a sample can be.
+fn loud(random: &mut Random, offset: i16) -> Vec<i16> {
+    let few = random.below(8) as usize;
+    let mut samples = full_scale(random, few);
+    samples.push(furthest(offset));
+    samples
 }
 
 /// A stretch of a voice.
@@ -58,14 +76,14 @@ fn spoken(random: &mut Random, rate: &Rate) -> Vec<i16> {
 }
 
 /// Two signals, one that takes it all, or one that grazes a threshold.
-fn any_samples(random: &mut Random, rate: &Rate) -> Vec<i16> {
+fn any_samples(random: &mut Random, rate: &Rate, offset: i16) -> Vec<i16> {
     if random.once_in(3) {
-        return grazing(random, rate, TOTAL);
+        return around(offset, &grazing(random, rate, TOTAL));
     }
     let first = random.pick(&[0, TOTAL / 4, TOTAL / 2]);
     let mut samples = signal(random, RATES[0].I, first);
     samples.extend(signal(random, RATES[0].I, TOTAL - first));
-    samples
+    placed(random, offset, samples)
 }
 
 /// A chunk or a block of the signal's next samples; gives the samples left.

@@ -80,4 +80,11 @@ impl Random {
         };
         signed.min(32767) as i16
     }
+
+    /// An offset: none, next to none, a few codes, either end of the range, or any.
+    pub fn offset(&mut self) -> i16 {
+        let few = self.sample(64);
+        let any = self.next() as i16;
+        self.pick(&[0, 1, -1, few, few, i16::MIN, i16::MAX, any])
+    }
 }

@@ -2,6 +2,8 @@
 
 use super::blocks::{damage, sound};
 use super::random::Random;
+use super::signals::{noise, placed};
+use crate::block;
 use crate::meter::Meter;
 use crate::records::Record;
 use crate::replay::Player;
@@ -39,8 +41,9 @@ impl Script {
 
     /// A sound block of noise that fits the meter.
     pub fn fitting(&mut self, samples: u64) -> Vec<u8> {
-        let (code, n) = (self.meter().code, self.meter().n);
-        sound(&mut self.random, code, n, samples)
+        let (code, n, offset) = (self.meter().code, self.meter().n, self.meter().offset);
+        let noise = noise(&mut self.random, samples as usize);
+        block::make(code, n, &placed(&mut self.random, offset, noise))
     }
 
     /// A block that fits the meter but for its samples before.

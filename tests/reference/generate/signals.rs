@@ -17,6 +17,33 @@ pub fn signal(random: &mut Random, I: u64, length: usize) -> Vec<i16> {
     }
 }
 
+/// The samples around an offset: each as far from it as it was from 0, on the same side where there
+/// is room and else on the other. But for s, a meter of that offset then measures what one of none
+/// would.
+pub fn around(offset: i16, samples: &[i16]) -> Vec<i16> {
+    let at = |x: i16| offset.checked_add(x).or(offset.checked_sub(x));
+    let placed = samples.iter().map(|&x| at(x).expect("room on one side"));
+    placed.collect()
+}
+
+/// The samples around an offset, or, one time in three, as they are: those lie up to 65535 from it.
+pub fn placed(random: &mut Random, offset: i16, samples: Vec<i16>) -> Vec<i16> {
+    if offset == 0 || random.once_in(3) {
+        samples
+    } else {
+        around(offset, &samples)
+    }
+}
+
+/// The sample furthest from an offset.
+pub fn furthest(offset: i16) -> i16 {
+    if offset < 0 {
+        i16::MAX
+    } else {
+        i16::MIN
+    }
+}
+
 /// A sample of any bit length.
 fn loud_sample(random: &mut Random) -> i16 {
     let most = 1 << random.between(0, 15);
@@ -91,7 +118,7 @@ pub fn grazing(random: &mut Random, rate: &Rate, length: usize) -> Vec<i16> {
     let start = random.between(60, 200) as usize;
     let most = 1 << random.between(0, 10);
     let mut samples = noise_within(random, most, start);
-    let (meter, _) = Meter::open(rate.code).0.chunk(&samples);
+    let (meter, _) = Meter::open(rate.code, 0).0.chunk(&samples);
     let unreached = (0..15).find(|&j| meter.a[j] == 0);
     let j = unreached.expect("quiet noise leaves thresholds unreached");
     let target = c(j) - 16 + random.below(24);

@@ -3,9 +3,10 @@ use mathlib.Core.Path.{_≡_}
 use Prim.Native.Nat.{ℕ, _+_, _-_, _*_, _^_, _≤_, _<_}
 use lib.IntN.{ℤ, natAbs, _+ℤ_}
 use Rattle.level.specs.Types.{samplesOf, twoWords, words}
+use Rattle.sample.specs.declared.Counting.{Counting}
 use Rattle.sample.specs.declared.Sums.{Sums}
 use Rattle.sample.specs.declared.step.Moving.{Moving}
-use Rattle.sample.specs.Envelope.{smoothing, smooth, rectified}
+use Rattle.sample.specs.Envelope.{smoothing, smooth, size, rectified}
 use Rattle.sample.specs.Sample.{mostSamples}
 
 -- what moves, before the first of new samples
@@ -13,10 +14,15 @@ abbrev pub begun : Sums → Moving
 begun b = record { s = b .s; sq = 0; p = b .p; q = b .q }
 
 -- after a sample x
-unfoldable pub moved : (K : ℕ) → Moving → ℤ → Moving
-moved K m x =
-    let P = smooth K (m .p) (rectified x) in
-    record { s = m .s +ℤ x; sq = m .sq + natAbs x * natAbs x; p = P; q = smooth K (m .q) P }
+unfoldable pub moved : Counting → Moving → ℤ → Moving
+moved by m x =
+    let P = smooth (by .k) (m .p) (rectified (by .offset) x) in
+    record {
+      s = m .s +ℤ x;
+      sq = m .sq + size (by .offset) x * size (by .offset) x;
+      p = P;
+      q = smooth (by .k) (m .q) P;
+    }
 
 -- the sums after so many samples, the last of which left m, where they were b before
 abbrev pub ended : (b : Sums) → Moving → (new : ℕ) → Sums
@@ -47,7 +53,7 @@ pub record Smoothable (K old new : ℕ) : Type 0 where
 abbrev pub Addable : ℤ → Type 0
 Addable s = natAbs s ≤ 2 ^ 63 - 2 ^ 15
 
--- the size of a sample
-pub record Rectified (x : ℤ) (r : ℕ) : Type 0 where
-  pub is : r ≡ natAbs x
-  pub small : r ≤ 2 ^ 15
+-- the size of a sample at an offset
+pub record Rectified (o x : ℤ) (r : ℕ) : Type 0 where
+  pub is : r ≡ size o x
+  pub small : r ≤ 2 ^ 16

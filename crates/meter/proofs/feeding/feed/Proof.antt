@@ -2,15 +2,18 @@
 use borrow.Author.Needs.{needs}
 use borrow.Author.Tests.{lt-ltb, le-ltb}
 use mathlib.Core.List.{[], _∷_}
-use mathlib.Core.Path.{sym, ap, _∙_, subst}
+use mathlib.Core.Path.{_≡_, sym, ap, _∙_, subst}
 use Prim.Native.Nat.{ℕ, _+_, _^_, _≤_, _<_}
 use native.Mathlib.Omega.{arith}
 use lib.ListN.{length, getD}
+use mir.Syntax.{w16}
+use mir.Val.{toZ, ofZ}
+use mir.Facts.{toZ-ofZ}
 use Rattle.level.specs.Types.{thresholds}
 use Rattle.meter.proofs.Handing.{refusal, acceptance}
 use Rattle.meter.proofs.Possible.{Possible, possible}
 use Rattle.meter.specs.Calls.{handedBy, countingOf, afterSamples}
-use Rattle.meter.specs.Inner.{takenBy, refusedWith}
+use Rattle.meter.specs.Inner.{countingAt, takenBy, refusedWith}
 use Rattle.meter.specs.Refusals.{tooMany}
 use Rattle.setting.specs.Settings.{kOf}
 use Rattle.meter.specs.declared.Meter.{Meter}
@@ -29,9 +32,9 @@ bounded m p =
     record {
       n-max = p .n-max;
       s-max = p .s-max;
-      sq-max = omega (arith, p .sq-max);
-      p-max = omega (arith, p .p-max);
-      q-max = omega (arith, p .q-max);
+      sq-max = p .sq-max;
+      p-max = p .p-max;
+      q-max = p .q-max;
     }
 
 k-small : (m : Meter) → Possible m → countingOf (m .setting) .k ≤ smoothing
@@ -57,30 +60,40 @@ returns : tie.Need-returns
 unfolding takenBy tooMany
 returns c = let s = c .before .before .before .args in c .refused .ensures ∙ refusal 11 ((11, tooMany (s .meter) (length (s .xs .now))) ∷ []) _ _ (omega arith) (here 11 _ [] (lt-ltb _ _ (total (λ t. mostSamples < t) (c .before .before) (c .before .if1 .taken))))
 
+-- ---- samples that are taken
+
+abbrev start-at : tie.After-struct-told → tie.Start
+start-at c = c .before .before .before .before
+
+-- what they are counted by: the offset goes there as bits, and the number of those bits is the setting's again
+by-is : (c : tie.After-struct-told)
+    → countingOf (start-at c .args .meter .setting) ≡ countingAt (start-at c .args .rate) (toZ w16 (ofZ w16 (start-at c .args .meter .setting .offset)))
+by-is c = start-at c .pre .by-is ∙ ap (countingAt (start-at c .args .rate)) (sym (toZ-ofZ (record { sfits = c .struct-told .given .1 .0 .1 })))
+
 after-requires : tie.Need-after-requires
 after-requires c κs =
-    let s = c .before .before .before in
+    let s = start-at c in
     let m = s .args .meter in
     let p = possible m (s .pre .possible) in
-    subst (λ (by : Counting). Within by (length (s .args .xs .now)) (m .state)) (s .pre .by-is)
+    subst (λ (by : Counting). Within by (length (s .args .xs .now)) (m .state)) (by-is c)
     (record {
       sums = bounded m p;
       a-max = p .a-max;
       h-max = held m p;
       k-max = k-small m p;
-      room = total (λ t. t ≤ mostSamples) (c .before .before) (c .before .if1 .left);
+      room = total (λ t. t ≤ mostSamples) (c .before .before .before) (c .before .before .if1 .left);
       few = omega (arith, s .pre .few);
     })
 
 returns-2 : tie.Need-returns-2
 unfolding takenBy tooMany handedBy afterSamples
 returns-2 c =
-    let s = c .before .before .before .before in
+    let s = start-at (c .before) in
     let m = s .args .meter in
     let xs = s .args .xs .now in
     ap (λ (st : State). refusedWith 0 (record { setting = m .setting; state = st }))
-    (c .after .ensures ∙ ap (λ (by : Counting). stateAfter by (m .state) xs) (sym (s .pre .by-is)))
-    ∙ acceptance ((11, tooMany m (length xs)) ∷ []) (afterSamples m xs) m (past 11 (tooMany m (length xs)) [] (le-ltb _ _ (total (λ t. t ≤ mostSamples) (c .before .before .before) (c .before .before .if1 .left))) none)
+    (c .after .ensures ∙ ap (λ (by : Counting). stateAfter by (m .state) xs) (sym (by-is (c .before))))
+    ∙ acceptance ((11, tooMany m (length xs)) ∷ []) (afterSamples m xs) m (past 11 (tooMany m (length xs)) [] (le-ltb _ _ (total (λ t. t ≤ mostSamples) (c .before .before .before .before) (c .before .before .before .if1 .left))) none)
 
 pub feed-spec : {M : Type 1} → statement M
 feed-spec = tie.close (tie.spec (λ c κs. search needs) add-total (λ c κs. search needs) returns after-requires returns-2)

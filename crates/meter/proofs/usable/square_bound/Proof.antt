@@ -1,4 +1,4 @@
--- n·2^30 split where the low word ends.
+-- n·2^32 split where the low word ends.
 use borrow.Author.Needs.{needs}
 use mathlib.Core.Path.{_≡_}
 use Prim.Native.Nat.{ℕ, _+_, _*_, _/_, _%_, _^_}
@@ -6,7 +6,7 @@ use native.Mathlib.Omega.{arith}
 use Rattle.meter.proofs.usable.square_bound.Statement.{statement}
 use Rattle.meter.proofs.usable.square_bound.Tie as tie
 
-parts : (n : ℕ) → n / 2 ^ 34 * 2 ^ 64 + n % 2 ^ 34 * 2 ^ 30 ≡ n * 2 ^ 30
+parts : (n : ℕ) → n / 2 ^ 32 * 2 ^ 64 + n % 2 ^ 32 * 2 ^ 32 ≡ n * 2 ^ 32
 parts n = omega arith
 
 returns : tie.Need-returns

@@ -19,7 +19,7 @@ use Rattle.sample.specs.declared.Sums.{Sums}
 use Rattle.sample.specs.Sample.{mostSamples, listFrom, stateAfter}
 use Rattle.sample.specs.Inner.Steps.{begun, moved, Room}
 use Rattle.sample.specs.Inner.Runs.{Settled, numbersOf, stateOf}
-use Rattle.sample.proofs.Moved.{room-first, room-less}
+use Rattle.sample.proofs.Moved.{Sized, room-first, room-less}
 use Rattle.sample.proofs.Numbers.{typed-again, number-at}
 use Rattle.sample.proofs.Places.{at-or-past}
 use Rattle.sample.proofs.Turning.{Turning, first-room, started, standing, turned, finished}
@@ -65,6 +65,9 @@ returns c = empty _ _ _ (c .if1 .taken)
 
 -- ---- the first sample: there is one, it fits, and there is room for it and the others
 
+sized : (s : tie.Start Inv-loop μ-loop) → Sized (s .args .by)
+sized s = record { k-max = s .pre .k-max; offset-fits = record { sfits = search needs } }
+
 some-sample : (c : tie.Else1 Inv-loop μ-loop) → 0 < length (c .before .args .xs .now)
 some-sample c = pos-of-ne-zero (c .if1 .left)
 
@@ -74,7 +77,7 @@ room-at-first c = let s = c .before in room-first (s .args .self .sums) _ (s .pr
 first-fits : (c : tie.After-step Inv-loop μ-loop) → SFits w16 (getD (start-at c .args .xs .now) 0 (pos 0))
 first-fits c = record { sfits = c .before .step-arg .given }
 
-stepped : (c : tie.After-step Inv-loop μ-loop) → c .step .result ≡ moved (start-at c .args .by .k) (begun (start-at c .args .self .sums)) (getD (start-at c .args .xs .now) 0 (pos 0))
+stepped : (c : tie.After-step Inv-loop μ-loop) → c .step .result ≡ moved (start-at c .args .by) (begun (start-at c .args .self .sums)) (getD (start-at c .args .xs .now) 0 (pos 0))
 stepped c = c .step .ensures ∙ ap₂ (moved _) (c .before .before .begin .ensures) (toZ-ofZ (first-fits c))
 
 shared-slice-copy-out-step : tie.Need-shared-slice-copy-out-step Inv-loop μ-loop
@@ -91,7 +94,7 @@ step-requires c κs =
 around-requires : tie.Need-around-requires Inv-loop μ-loop
 around-requires c κs =
     let s = start-at c in
-    first-room (s .args .by) (s .args .self .sums) _ (s .args .xs .now) (some-sample (filled-at c)) (s .pre .k-max) (first-fits c) (stepped c) (room-at-first (filled-at c)) .q-max
+    first-room (s .args .by) (s .args .self .sums) _ (s .args .xs .now) (some-sample (filled-at c)) (sized s) (first-fits c) (stepped c) (room-at-first (filled-at c)) .q-max
 
 -- ---- the counters at first: the arrays have their lengths, and the counts are the state's
 
@@ -119,7 +122,7 @@ loop-holds c =
     let f = stepped-at n in
     let s = start-at f in
     let lh = h-length f in
-    started (s .args .by) (s .args .self .sums) _ (s .args .xs .now) (some-sample (filled-at f)) (s .pre .k-max) (first-fits f) (stepped f) (room-at-first (filled-at f))
+    started (s .args .by) (s .args .self .sums) _ (s .args .xs .now) (some-sample (filled-at f)) (sized s) (first-fits f) (stepped f) (room-at-first (filled-at f))
     (n .numbers .result) (s .args .self .h) _ _ _ (low-fits s) (sym (n .numbers .ensures .many)) (sym lh)
     (at-or-past (n .numbers .result) thresholds (s .args .self .sums .n .0) (n .numbers .ensures .many) (numbers-max n))
     (at-or-past (s .args .self .h) thresholds (s .args .by .i) lh (s .pre .h-max))

@@ -10,6 +10,7 @@ use mir.Val.{SFits}
 use mir.Facts.{toZ-ofZ}
 use Rattle.sample.specs.Inner.Steps.{moved}
 use Rattle.sample.specs.Inner.Runs.{Ran}
+use Rattle.sample.proofs.Moved.{Sized}
 use Rattle.sample.proofs.Ran.{Going, set-out, run-out, room-for-one, gone-out, gone-on}
 use Rattle.sample.proofs.runs.run_on.Statement.{statement}
 use Rattle.sample.proofs.runs.run_on.Tie as tie
@@ -20,12 +21,16 @@ Inv-loop by band xs at last₀ next₀ last next = Going by (band .low) (band .h
 abbrev μ-loop : tie.MeasureT-loop
 μ-loop by band xs at last₀ next₀ last next = length xs - next
 
+-- the offset is a number of 16 bits, as its type says
+sized : (s : tie.Start Inv-loop μ-loop) → Sized (s .args .by)
+sized s = record { k-max = s .pre .k-max; offset-fits = record { sfits = search needs } }
+
 -- the sample at i, and what it leaves
 fits : (c : tie.After-step-arg Inv-loop μ-loop) → SFits w16 (getD (c .before .before .before .args .xs .now) (c .before .before .loop .next) (pos 0))
 fits c = record { sfits = c .step-arg .given }
 
 stepped : (c : tie.After-step Inv-loop μ-loop)
-    → c .step .result ≡ moved (c .before .before .before .before .args .by .k) (c .before .before .before .loop .last) (getD (c .before .before .before .before .args .xs .now) (c .before .before .before .loop .next) (pos 0))
+    → c .step .result ≡ moved (c .before .before .before .before .args .by) (c .before .before .before .loop .last) (getD (c .before .before .before .before .args .xs .now) (c .before .before .before .loop .next) (pos 0))
 stepped c = c .step .ensures ∙ ap (moved _ _) (toZ-ofZ (fits (c .before)))
 
 out : (c : tie.After-step Inv-loop μ-loop)
@@ -34,7 +39,7 @@ out : (c : tie.After-step Inv-loop μ-loop)
 out c =
     let l = c .before .before .before .loop in
     let s = c .before .before .before .before in
-    gone-out (s .args .by) _ _ (s .args .first) (s .args .xs .now) (s .args .at) (s .pre .k-max) (l .last) _ (l .next) (l .inv)
+    gone-out (s .args .by) _ _ (s .args .first) (s .args .xs .now) (s .args .at) (sized s) (l .last) _ (l .next) (l .inv)
     (c .before .before .loop-test .taken) (fits (c .before)) (stepped c)
 
 loop-holds : tie.Need-loop-holds Inv-loop μ-loop
@@ -62,7 +67,7 @@ loop-again c =
     let st = c .before .before .before .before .before .before in
     let l = st .before .before .before .loop in
     let s = st .before .before .before .before in
-    gone-on (s .args .by) _ _ (s .args .first) (s .args .xs .now) (s .args .at) (s .pre .k-max) (l .last) _ (l .next) (l .inv)
+    gone-on (s .args .by) _ _ (s .args .first) (s .args .xs .now) (s .args .at) (sized s) (l .last) _ (l .next) (l .inv)
     (st .before .before .loop-test .taken) (fits (st .before)) (stepped st) (c .before .before .before .if1 .left) (c .if2 .left)
 
 returns-3 : tie.Need-returns-3 Inv-loop μ-loop

@@ -5,41 +5,45 @@ use Prim.Native.Nat.{ℕ, _+_, _-_, _*_, _^_, _≤_, _<_}
 use native.Mathlib.Nat.{mul-le-mul, lt-of-le-of-lt}
 use native.Mathlib.Omega.{arith}
 use lib.Dec.{lit<}
-use lib.IntN.{ℤ, natAbs, _+ℤ_}
-use mir.Syntax.{w64}
+use lib.IntN.{ℤ, _+ℤ_}
+use mir.Syntax.{w16, w64}
 use mir.Val.{toZ, ofZ}
 use mir.Facts.{toZ-ofZ}
+use Rattle.sample.specs.declared.Counting.{Counting}
 use Rattle.sample.specs.declared.step.Moving.{Moving}
-use Rattle.sample.specs.Envelope.{smooth, rectified}
+use Rattle.sample.specs.Envelope.{smooth, size, rectified}
 use Rattle.sample.specs.Inner.Steps.{moved, Addable}
 use Rattle.sample.proofs.Envelope.{smooth-le}
 use Rattle.sample.proofs.step.Moving.step.Statement.{statement}
 use Rattle.sample.proofs.step.Moving.step.Tie as tie
 
 -- points of the code
-abbrev rectified-at : tie.After-struct-told → tie.After-rectified
+abbrev start-at : tie.After-rectified → tie.Start
+start-at c = c .before .before
+
+abbrev rectified-at : tie.After-struct-told2 → tie.After-rectified
 rectified-at c = c .before .before .before
 
-abbrev start-at : tie.After-struct-told → tie.Start
-start-at c = rectified-at c .before
+-- the fields offset and s go to `rectified` and `added` as bits, and the numbers of those bits are offset and s again
+offset-back : (c : tie.After-rectified) → toZ w16 (ofZ w16 (start-at c .args .by .offset)) ≡ start-at c .args .by .offset
+offset-back c = toZ-ofZ (record { sfits = c .before .struct-told .given .1 .1 .0 .1 })
 
--- the field s goes to `added` as bits, and the number of those bits is s again
-s-back : (c : tie.After-struct-told) → toZ w64 (ofZ w64 (start-at c .args .self .s)) ≡ start-at c .args .self .s
-s-back c = toZ-ofZ (record { sfits = c .struct-told .given .0 .1 })
+s-back : (c : tie.After-struct-told2) → toZ w64 (ofZ w64 (start-at (rectified-at c) .args .self .s)) ≡ start-at (rectified-at c) .args .self .s
+s-back c = toZ-ofZ (record { sfits = c .struct-told2 .given .0 .1 })
 
 s-room : (s : ℕ) → s + 1 * 2 ^ 15 ≤ 2 ^ 63 → s ≤ 2 ^ 63 - 2 ^ 15
 s-room s h = omega arith
 
-square-fits : (size : ℕ) → size ≤ 2 ^ 15 → size * size < 2 ^ 64
-square-fits size h = lt-of-le-of-lt (mul-le-mul h h) (lit< tt)
+square-fits : (y : ℕ) → y ≤ 2 ^ 16 → y * y < 2 ^ 64
+square-fits y h = lt-of-le-of-lt (mul-le-mul h h) (lit< tt)
 
-sum-fits : (sq size : ℕ) → sq + 1 * 2 ^ 32 < 2 ^ 64 → size ≤ 2 ^ 15 → sq + size * size < 2 ^ 64
-sum-fits sq size h l = omega (arith, mul-le-mul l l)
+sum-fits : (sq y : ℕ) → sq + 1 * 2 ^ 32 < 2 ^ 64 → y ≤ 2 ^ 16 → sq + y * y < 2 ^ 64
+sum-fits sq y h l = omega (arith, mul-le-mul l l)
 
 smoothed-requires-2 : tie.Need-smoothed-requires-2
 smoothed-requires-2 c κs =
     let r = c .before in
-    let s = r .before in
+    let s = start-at r in
     let p = s .pre .room in
     let small : r .rectified .result * 2 ^ 24 ≤ 2 ^ 40 = omega (arith, r .rectified .ensures .small) in
     record {
@@ -49,7 +53,7 @@ smoothed-requires-2 c κs =
     }
 
 added-requires : tie.Need-added-requires
-added-requires c κs = subst Addable (sym (s-back c)) (s-room _ (start-at c .pre .room .s-max))
+added-requires c κs = subst Addable (sym (s-back c)) (s-room _ (start-at (rectified-at c) .pre .room .s-max))
 
 mul-t7 : tie.Need-mul-t7
 mul-t7 c = record { fits = square-fits _ (rectified-at (c .before) .rectified .ensures .small) }
@@ -57,22 +61,22 @@ mul-t7 c = record { fits = square-fits _ (rectified-at (c .before) .rectified .e
 add-t9 : tie.Need-add-t9
 add-t9 c =
     let r = rectified-at (c .before .before) in
-    record { fits = sum-fits _ _ (r .before .pre .room .sq-max) (r .rectified .ensures .small) }
+    record { fits = sum-fits _ _ (start-at r .pre .room .sq-max) (r .rectified .ensures .small) }
 
-made : (K : ℕ) (m : Moving) (x x′ s s′ t : ℤ) (size p q : ℕ)
-    → x′ ≡ x → s′ ≡ m .s → size ≡ natAbs x′ → t ≡ s → s ≡ s′ +ℤ x′ → p ≡ smooth K (m .p) (size * 2 ^ 24) → q ≡ smooth K (m .q) p
-    → record { s = t; sq = m .sq + size * size; p = p; q = q } ≡ moved K m x
+made : (by : Counting) (m : Moving) (o x x′ s s′ t : ℤ) (y p q : ℕ)
+    → o ≡ by .offset → x′ ≡ x → s′ ≡ m .s → y ≡ size o x′ → t ≡ s → s ≡ s′ +ℤ x′ → p ≡ smooth (by .k) (m .p) (y * 2 ^ 24) → q ≡ smooth (by .k) (m .q) p
+    → record { s = t; sq = m .sq + y * y; p = p; q = q } ≡ moved by m x
 unfolding moved rectified
-made K m x x′ s s′ t size p q e2 e3 e4 e5 e6 e7 e8 = cc
+made by m o x x′ s s′ t y p q e1 e2 e3 e4 e5 e6 e7 e8 = cc
 
 returns : tie.Need-returns
 returns c =
     let told = c .before .before in
     let q = told .before in
     let r = rectified-at told in
-    let s = r .before in
-    made (s .args .by .k) (s .args .self) (s .args .x) _ _ _ _ _ _ _
-    (toZ-ofZ (s .fits .x)) (s-back told) (r .rectified .ensures .is)
+    let s = start-at r in
+    made (s .args .by) (s .args .self) _ (s .args .x) _ _ _ _ _ _ _
+    (offset-back r) (toZ-ofZ (s .fits .x)) (s-back told) (r .rectified .ensures .is)
     (toZ-ofZ (record { sfits = c .before .added .ok })) (c .before .added .ensures)
     (q .before .smoothed .ensures) (q .smoothed2 .ensures)
 
