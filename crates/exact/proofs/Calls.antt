@@ -28,7 +28,7 @@ use Rattle.meter.specs.Refusals.{unnamedCode, longChunk, wrongPlace, tooMany, o
 use Rattle.meter.specs.Calls.{fresh, countingOf, afterSamples, openCall, chunkCall, blockCall}
 use Rattle.meter.proofs.Laws.{open-given, chunk-given, block-given, opened}
 use Rattle.meter.proofs.Possible.{Possible, passes}
-use Rattle.exact.specs.Calls.{TypedSetting, Call, chunk, block, AllSamples, Typed, broughtBy}
+use Rattle.exact.specs.Calls.{TypedOffset, Call, chunk, block, AllSamples, Typed, broughtBy}
 use Rattle.exact.specs.Exact.{E, startAt, start, takeAll, accepts, fed, exactly, answersOfE, took}
 use Rattle.exact.specs.Lists.{called, accepted, after, answers, taken}
 use Rattle.exact.proofs.Tied.{by, Tied, same-code, same-K, same-I, same-o, total, tied-samples, tied-fresh}
@@ -245,7 +245,7 @@ named-by : (c : Setting) → openCall c .number ≡ 0 → isNamed (c .code) ≡ 
 unfolding NoneApplies openRules unnamedCode
 named-by c z = not-false _ (open-given c .0 .accepted .0 z .0)
 
-good-fresh : (c : Setting) → TypedSetting c → isNamed (c .code) ≡ true → Good (fresh c) (start c)
+good-fresh : (c : Setting) → TypedOffset c → isNamed (c .code) ≡ true → Good (fresh c) (start c)
 unfolding start startAt fresh iOf freshState
 good-fresh c t n =
     record {
@@ -259,5 +259,5 @@ good-fresh c t n =
       tied = tied-fresh (rowOf (c .code) .d) (c .code) (rowOf (c .code) .k) (rowOf (c .code) .i) (c .offset);
     }
 
-pub good-open : (c : Setting) → TypedSetting c → openCall c .number ≡ 0 → Good (openCall c .meter) (start c)
+pub good-open : (c : Setting) → TypedOffset c → openCall c .number ≡ 0 → Good (openCall c .meter) (start c)
 good-open c t z = subst (λ (m : Meter). Good m (start c)) (sym (opened c z)) (good-fresh c t (named-by c z))

@@ -2,7 +2,7 @@
 use mathlib.Core.Path.{sym, subst}
 use Rattle.block.proofs.Laws.{host-given}
 use Rattle.meter.specs.Opened.{Fresh}
-use Rattle.meter.proofs.Laws.{open-given, chunk-given, block-given, report-given, refused-chunk, refused-block, report-meter, refused-report, refused-open, zeros-chunk, zeros-block, zeros-report, opened, fresh-fields, factor-never-above, percent-never-smaller, block-taken, block-samples, empty-chunk}
+use Rattle.meter.proofs.Laws.{open-given, chunk-given, block-given, report-given, refused-chunk, refused-block, report-meter, refused-report, refused-open, zeros-chunk, zeros-block, zeros-report, opened, fresh-fields, factor-never-above, percent-never-smaller, block-taken, block-samples, chunk-samples, empty-chunk}
 use Rattle.meter.proofs.Outcome.{answered}
 use Rattle.exact.specs.Demands.{Demand1, Demand2, Claim}
 use Rattle.exact.proofs.Demand3.{demand3}
@@ -39,6 +39,7 @@ demand2 =
       percent-never-falls = percent-never-smaller;
       block-taken = block-taken;
       block-samples = λ m b z. block-samples m b (block-taken m b .0 z);
+      chunk-samples = chunk-samples;
       empty-chunk = empty-chunk;
     }
 

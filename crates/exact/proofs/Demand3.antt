@@ -19,7 +19,7 @@ use Rattle.meter.specs.Reports.{margin}
 use Rattle.meter.proofs.Laws.{Levels, with-levels, crossing-of}
 use Rattle.meter.proofs.Outcome.{answered}
 use Rattle.meter.proofs.Possible.{passes, falling}
-use Rattle.exact.specs.Calls.{TypedSetting, Call, Typed, broughtBy}
+use Rattle.exact.specs.Calls.{TypedOffset, Call, Typed, broughtBy}
 use Rattle.exact.specs.Demands.{Opens, meterAfter, exactAfter, countAt, LevelBounds, Demand3}
 use Rattle.exact.specs.Exact.{E, start, startAt, takeAll, accepts, fed, exactly}
 use Rattle.exact.proofs.Calls.{Good, good-possible, good-after, good-open, same-answers, same-samples}
@@ -68,7 +68,7 @@ module _ (m : Meter) (e : E) (g : Good m e) (r : Report) (L : Levels m r) where
 
 -- ---- the whole
 
-pub demand3 : (c : Setting) (calls : List Call) → TypedSetting c → Opens c → Typed calls → Demand3 c calls
+pub demand3 : (c : Setting) (calls : List Call) → TypedOffset c → Opens c → Typed calls → Demand3 c calls
 unfolding dOf
 demand3 c calls t z f =
     let first = good-open c t z in

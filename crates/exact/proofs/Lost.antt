@@ -21,7 +21,7 @@ use Rattle.meter.specs.declared.Meter.{Meter}
 use Rattle.meter.specs.Calls.{fresh, countingOf, afterSamples}
 use Rattle.meter.proofs.Laws.{opened}
 use Rattle.meter.proofs.Possible.{passes}
-use Rattle.exact.specs.Calls.{TypedSetting, Call, Typed, broughtBy}
+use Rattle.exact.specs.Calls.{TypedOffset, Call, Typed, broughtBy}
 use Rattle.exact.specs.Demands.{Opens, meterAfter, exactAfter, takenFrom, sum, sumOfSquares, NothingLost}
 use Rattle.exact.specs.Exact.{E, start, startAt, distance, takeOne, takeAll, accepts, fed, exactly, took}
 use Rattle.exact.specs.Lists.{called, accepted, after, taken}
@@ -93,7 +93,7 @@ pub exact-squares : (c : Setting) (calls : List Call) → exactAfter c calls .sq
 unfolding start startAt
 exact-squares c calls = ap (λ (e : E). e .sq) (exactly-is calls (start c)) ∙ grown-exact (took (start c) calls) (start c) ∙ zero-add _
 
-pub nothing-lost : (c : Setting) (calls : List Call) → TypedSetting c → Opens c → Typed calls → NothingLost c calls
+pub nothing-lost : (c : Setting) (calls : List Call) → TypedOffset c → Opens c → Typed calls → NothingLost c calls
 unfolding freshState countingOf
 nothing-lost c calls t z f =
     let e = measured c calls z in

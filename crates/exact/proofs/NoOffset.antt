@@ -4,7 +4,6 @@ use mathlib.Core.Path.{_≡_, refl, sym, ap, ap₂, _∙_}
 use Prim.Native.Nat.{ℕ, _+_, _*_, _^_}
 use lib.IntN.{ℤ, pos, negsuc, natAbs, _+ℤ_, _*ℤ_, +ℤ-idr, pos-*ℤ-pos, negsuc-*ℤ-negsuc}
 use Rattle.level.specs.Types.{samplesOf, thresholds, twoWords, words}
-use Rattle.setting.specs.declared.Setting.{Setting}
 use Rattle.setting.specs.Settings.{kOf, iOf}
 use Rattle.sample.specs.declared.Counting.{Counting}
 use Rattle.sample.specs.declared.State.{State}

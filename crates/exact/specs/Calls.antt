@@ -1,5 +1,4 @@
--- Settings and calls: METHOD.md, "One sample". What a call is given beside the meter, what its types and an opening's say of that, and the samples that it
--- brings.
+-- Calls: METHOD.md, "One sample". What a call is given beside the meter, and the samples that it brings; and what types say of samples and of an offset.
 use mathlib.Core.List.{List, [], _∷_}
 use Prim.Native.Nat.{ℕ}
 use lib.IntN.{ℤ}
@@ -9,8 +8,8 @@ use Rattle.block.specs.Block.{samplesIn}
 use Rattle.setting.specs.declared.Setting.{Setting}
 
 -- the offset that a meter is opened with is a signed 16-bit number, as its type says
-abbrev pub TypedSetting : Setting → Type 0
-TypedSetting c = SFits w16 (c .offset)
+abbrev pub TypedOffset : Setting → Type 0
+TypedOffset c = SFits w16 (c .offset)
 
 -- a call's arguments other than the meter
 pub data Call : Type 0 where

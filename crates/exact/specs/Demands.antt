@@ -1,6 +1,6 @@
 -- The whole claim: the customer's three demands, each a record with a field for each clause of its sentence, and `Claim`, that all three hold. What
 -- only the check of the code can show stands as a comment that names the contracts. What is in quotes are his words; his "document 01" is the scope
--- that docs/METHOD.md states, as his requests L1 and L2 amended it.
+-- that docs/METHOD.md states, as his requests L1 and L2 amend it.
 use mathlib.Core.Bool.{Bool, true, false}
 use mathlib.Core.List.{List, [], _∷_}
 use mathlib.Core.Logic.{_↔_}
@@ -24,7 +24,7 @@ use Rattle.meter.specs.Calls.{HandedReport, countingOf, afterSamples, openCall,
 use Rattle.meter.specs.Opened.{Fresh, Zeros}
 use Rattle.meter.specs.Refusals.{impossible, openRules, chunkRules, blockCallRules}
 use Rattle.meter.specs.Reports.{reportRules}
-use Rattle.exact.specs.Calls.{TypedSetting, Call, Typed}
+use Rattle.exact.specs.Calls.{TypedOffset, Call, Typed}
 use Rattle.exact.specs.Exact.{E, start, exactly, answersOfE, took}
 use Rattle.exact.specs.Lists.{after, answers, taken}
 use Rattle.exact.specs.NoOffset.{NoOffset}
@@ -82,7 +82,7 @@ pub record Demand1 : Type 0 where
   -- "every call ends": the check proves of every function that it returns. `Meter::open`, `Meter::chunk`, `Meter::block`, `Meter::report` and
   -- `hoggetwhirl_check_block` have no `requires`: they return for every argument whatever
   -- "wrap a sum or spoil a running measurement"
-  pub nothing-lost : (c : Setting) (calls : List Call) → TypedSetting c → Opens c → Typed calls → NothingLost c calls
+  pub nothing-lost : (c : Setting) (calls : List Call) → TypedOffset c → Opens c → Typed calls → NothingLost c calls
   -- "whatever is wrong gets the refusal that document 01 numbers for it"
   pub open-number : (c : Setting) → Numbered (openRules c) (openCall c .number)
   pub chunk-number : (m : Meter) (xs : List ℤ) → Numbered (chunkRules m xs) (chunkCall m xs .number)
@@ -122,7 +122,8 @@ pub record Demand2 : Type 0 where
   -- "a sample block is taken exactly when it breaks none of the rules"; taken, its samples are
   pub block-taken : (m : Meter) (b : List ℕ) → (blockCall m b .number ≡ 0) ↔ NoneApplies (blockCallRules m b)
   pub block-samples : (m : Meter) (b : List ℕ) → blockCall m b .number ≡ 0 → blockCall m b .meter ≡ afterSamples m (samplesIn b)
-  -- an empty chunk is accepted where 2 does not refuse the meter, and changes nothing
+  -- an accepted chunk's samples are taken; an empty one is accepted where 2 does not refuse the meter, and changes nothing
+  pub chunk-samples : (m : Meter) (xs : List ℤ) → chunkCall m xs .number ≡ 0 → chunkCall m xs .meter ≡ afterSamples m xs
   pub empty-chunk : (m : Meter) → impossible m ≡ false → chunkCall m [] ≡ record { number = 0; meter = m }
 
 -- ---- demand 3: "For every list of chunk calls and block calls, refused ones among them, from a fresh meter at any named rate"
@@ -137,7 +138,7 @@ pub record LevelBounds (r : Report) (e : E) (D : ℕ) : Type 0 where
   pub less-two : 2 ^ A * countAt e (threshold (r .levels .upper) + D) ^ 4096 < 4 * e .sq ^ 4096
 
 pub record Demand3 (c : Setting) (calls : List Call) : Type 0 where
-  -- "The meter accepts exactly the calls that E accepts", and so takes the samples that E takes, whose squares E adds up
+  -- "The meter accepts exactly the calls that E accepts", and so takes the samples that E takes; E adds up the squares of x − o over them
   pub same-calls : answersTo c calls ≡ answersOfE (start c) calls
   pub same-samples : takenFrom c calls ≡ took (start c) calls
   pub exact-squares : exactAfter c calls .sq ≡ sumOfSquares (c .offset) (took (start c) calls)
@@ -156,4 +157,4 @@ pub record Demand3 (c : Setting) (calls : List Call) : Type 0 where
 pub record Claim : Type 0 where
   pub demand1 : Demand1
   pub demand2 : Demand2
-  pub demand3 : (c : Setting) (calls : List Call) → TypedSetting c → Opens c → Typed calls → Demand3 c calls
+  pub demand3 : (c : Setting) (calls : List Call) → TypedOffset c → Opens c → Typed calls → Demand3 c calls

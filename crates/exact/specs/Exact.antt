@@ -34,7 +34,7 @@ startAt code K I o =
 unfoldable pub start : Setting → E
 start c = startAt (c .code) (rowOf (c .code) .k) (rowOf (c .code) .i) (c .offset)
 
--- |x − o|, all that E reads of a sample x
+-- |x − o|, which is all that a sample x is to E
 unfoldable pub distance : (o x : ℤ) → ℕ
 distance o x = natAbs (x -ℤ o)
 

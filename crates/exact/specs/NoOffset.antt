@@ -1,5 +1,5 @@
--- The measurement of a line card without an offset: document 01's own formulas, in which a sample x counts as |x| and x·x. They serve the law at the end
--- and nothing else.
+-- The measurement of a line card without an offset: document 01's own formulas for the sums, in which a sample x counts as |x| and x·x. They serve the
+-- law at the end and nothing else. Counts and hangovers read Q alone, and are those of METHOD.md, "One sample".
 use mathlib.Core.List.{List, [], _∷_}
 use mathlib.Core.Path.{_≡_}
 use Prim.Native.Nat.{ℕ, _+_, _-_, _*_, _/_, _^_}
@@ -25,7 +25,7 @@ rawSums K m x =
       q = (m .q * (2 ^ 20 - K) + P * K) / 2 ^ 20;
     }
 
--- and the counts and hangovers follow Q
+-- and then the counts and hangovers
 unfoldable pub rawAfterOne : (K I : ℕ) → State → ℤ → State
 rawAfterOne K I m x =
     let sums = rawSums K (m .sums) x in

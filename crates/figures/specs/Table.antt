@@ -59,17 +59,7 @@ table =
     ∷ level (2 ^ 78) 319488
     ∷ sampled (settingOf 2) (pos 32767 ∷ []) 2285825920 9504509 (first 0 0) 14
     ∷ sampled (settingOf 2) (minus 1 ∷ []) 69760 290 (first 0 0) 14
-    ∷ percent (minus 8192) 2500
-    ∷ percent (pos 0) 10000
-    ∷ percent (minus 1) 9999
-    ∷ percent (minus 4096) 5000
-    ∷ percent (minus 54426) 1
-    ∷ percent (minus 54427) 0
-    ∷ reported 16384 (2 ^ 30) (first 8 4096) (record { L = pos 65536; A = pos 73728; C = pos 52093; F = minus 8192; lower = 6; upper = 7; T = 2500 })
-    ∷ reported 16384 (2 ^ 30) (replicate 7 4096 ++ (2048 ∷ replicate 7 0)) (record { L = pos 65536; A = pos 76669; C = pos 55034; F = minus 11133; lower = 6; upper = 7; T = 1519 })
-    ∷ reported 32768 1275068 (first 1 32768) (record { L = pos 21635; A = pos 21635; C = pos 0; F = pos 0; lower = 0; upper = 0; T = 10000 })
-    ∷ refused 32768 (2 ^ 20) (first 1 32768) 15
-    -- a line card with an offset: the largest size that a sample can have, and a sample that is the offset
+    -- at an offset: the largest size that a sample can have, and a sample that is the offset
     ∷ played (offsetBy 2 (pos 32767)) (chunk (minus 32768 ∷ []) ∷ []) (record {
       code = 2;
       offset = pos 32767;
@@ -94,6 +84,17 @@ table =
       a = first 0 0;
       h = replicate 15 1600;
     })
+    -- percentages, and reports
+    ∷ percent (minus 8192) 2500
+    ∷ percent (pos 0) 10000
+    ∷ percent (minus 1) 9999
+    ∷ percent (minus 4096) 5000
+    ∷ percent (minus 54426) 1
+    ∷ percent (minus 54427) 0
+    ∷ reported 16384 (2 ^ 30) (first 8 4096) (record { L = pos 65536; A = pos 73728; C = pos 52093; F = minus 8192; lower = 6; upper = 7; T = 2500 })
+    ∷ reported 16384 (2 ^ 30) (replicate 7 4096 ++ (2048 ∷ replicate 7 0)) (record { L = pos 65536; A = pos 76669; C = pos 55034; F = minus 11133; lower = 6; upper = 7; T = 1519 })
+    ∷ reported 32768 1275068 (first 1 32768) (record { L = pos 21635; A = pos 21635; C = pos 0; F = pos 0; lower = 0; upper = 0; T = 10000 })
+    ∷ refused 32768 (2 ^ 20) (first 1 32768) 15
     -- those of the customer's rows that he has run, not proved
     ∷ answered (withN (2 ^ 48) plain) (chunk (pos 1 ∷ []) ∷ chunk [] ∷ []) (11 ∷ 0 ∷ [])
     ∷ answered (freshAt 2) (chunk (replicate 4097 (pos 0)) ∷ chunk (replicate 4096 (pos 0)) ∷ []) (3 ∷ 0 ∷ [])
@@ -124,6 +125,19 @@ table =
     ∷ opened (settingOf 4) 1
     ∷ opened (settingOf 257) 1
     ∷ opened (offsetBy 1 (minus 32768)) 0
+    -- the largest size the other way, at the third rate
+    ∷ played (offsetBy 3 (minus 32768)) (chunk (pos 32767 ∷ []) ∷ []) (record {
+      code = 3;
+      offset = minus 32768;
+      n = 1;
+      s = pos 32767;
+      high = 0;
+      low = 4294836225;
+      P = 2287957920;
+      Q = 4761051;
+      a = first 0 0;
+      h = replicate 15 3200;
+    })
     -- a refused opening keeps nothing, not even the offset
     ∷ played (offsetBy 4 (pos 5)) [] (record {
       code = 0;
@@ -167,9 +181,10 @@ table =
     ∷ handedIn (withP (2 ^ 40 + 1) plain) 2
     ∷ handedIn (withQ (2 ^ 40) plain) 0
     ∷ handedIn (withQ (2 ^ 40 + 1) plain) 2
-    -- of the offset nothing is said
-    ∷ handedIn (withOffset (pos 32767) plain) 0
-    ∷ handedIn (withOffset (minus 32768) plain) 0
+    -- of the offset nothing is said, and no bound depends on it
+    ∷ handedIn (withOffset (pos 32767) (withSq 0 (1000 * 2 ^ 32) plain)) 0
+    ∷ handedIn (withOffset (minus 32768) (withP (2 ^ 40) plain)) 0
+    ∷ handedIn (withOffset (minus 32768) (withSq 0 (1000 * 2 ^ 32 + 1) plain)) 2
     -- an h_j > I: from the middle on, the last alone, and at the other rates
     ∷ handedIn (withH (replicate 7 0 ++ replicate 8 1600) plain) 0
     ∷ handedIn (withH (replicate 7 0 ++ replicate 8 1601) plain) 2

@@ -103,6 +103,11 @@ pub block-samples : (m : Meter) (b : List ℕ) → NoneApplies (blockCallRules m
 unfolding blockCall
 block-samples m b n = accepted _ _ _ (block-given m b .0 .accepted .1 n)
 
+-- an accepted chunk's samples are taken
+pub chunk-samples : (m : Meter) (xs : List ℤ) → chunkCall m xs .number ≡ 0 → chunkCall m xs .meter ≡ afterSamples m xs
+unfolding chunkCall
+chunk-samples m xs z = accepted _ _ _ z
+
 -- an empty chunk is accepted where 2 does not refuse the meter, and changes nothing
 pub empty-chunk : (m : Meter) → impossible m ≡ false → chunkCall m [] ≡ record { number = 0; meter = m }
 unfolding chunkCall chunkRules longChunk tooMany afterSamples stateAfter
