@@ -87,11 +87,11 @@ fn turn(
     lines: &mut [u8],
 ) -> Run {
     let begun = records::read(streams, bytes, lines);
-    tried(meter, begun, bytes, samples, line, lines)
+    answered(meter, begun, bytes, samples, line, lines)
 }
 
 // Plays the record ahead, where it can be played.
-fn tried(
+fn answered(
     meter: Meter,
     streams: Streams,
     bytes: &mut [u8],
@@ -101,7 +101,10 @@ fn tried(
 ) -> Run {
     let going = records::judged(bytes, streams);
     match going {
-        Going::On => answered(meter, streams, bytes, samples, line, lines),
+        Going::On => {
+            let answer = calls::answered(records::ahead(bytes, streams), meter, samples, line);
+            passed(answer, streams, bytes, line, lines)
+        }
         Going::Ended | Going::Unknown(_) | Going::Cut => {
             let source = streams.source;
             Run {
@@ -112,19 +115,6 @@ fn tried(
             }
         }
     }
-}
-
-// Plays the record ahead, which can be played.
-fn answered(
-    meter: Meter,
-    streams: Streams,
-    bytes: &mut [u8],
-    samples: &mut [i16],
-    line: &mut [u8],
-    lines: &mut [u8],
-) -> Run {
-    let answer = calls::answered(records::ahead(bytes, streams), meter, samples, line);
-    passed(answer, streams, bytes, line, lines)
 }
 
 // Reads through the rest of the record that is answered, and puts its line on the page where all of the
