@@ -53,8 +53,7 @@ module _ (m : Meter) (e : E) (g : Good m e) where
   by-of : countingOf (m .setting) ≡ by e
   unfolding countingOf kOf iOf
   by-of =
-      ap₂ (λ (k i : ℕ). record { k = k; i = i; offset = m .setting .offset })
-      (ap (λ (c : ℕ). rowOf c .k) (g .code) ∙ sym (g .K-is)) (ap (λ (c : ℕ). rowOf c .i) (g .code) ∙ sym (g .I-is))
+      ap₂ (λ (k i : ℕ). record { k = k; i = i; offset = m .setting .offset }) (ap (λ (c : ℕ). rowOf c .k) (g .code) ∙ sym (g .K-is)) i-of
       ∙ ap (λ (o : ℤ). record { k = e .K; i = e .I; offset = o }) (g .offset)
 
   pub good-possible : Possible m
