@@ -107,6 +107,19 @@ table =
     ∷ percent (minus (2 ^ 63)) 0
     -- the third rate
     ∷ sampled (settingOf 3) (pos 32767 ∷ []) 1143961504 2380489 (first 0 0) 14
+    -- and the largest size the other way
+    ∷ played (offsetBy 3 (minus 32768)) (chunk (pos 32767 ∷ []) ∷ []) (record {
+      code = 3;
+      offset = minus 32768;
+      n = 1;
+      s = pos 32767;
+      high = 0;
+      low = 4294836225;
+      P = 2287957920;
+      Q = 4761051;
+      a = first 0 0;
+      h = replicate 15 3200;
+    })
     -- a crossing at the last threshold
     ∷ reported 16384 (2 ^ 44) (first 15 4096) (record { L = pos 122880; A = pos 131072; C = pos 109437; F = minus 8192; lower = 13; upper = 14; T = 2500 })
     -- the largest sq that a report can meet
@@ -125,19 +138,6 @@ table =
     ∷ opened (settingOf 4) 1
     ∷ opened (settingOf 257) 1
     ∷ opened (offsetBy 1 (minus 32768)) 0
-    -- the largest size the other way, at the third rate
-    ∷ played (offsetBy 3 (minus 32768)) (chunk (pos 32767 ∷ []) ∷ []) (record {
-      code = 3;
-      offset = minus 32768;
-      n = 1;
-      s = pos 32767;
-      high = 0;
-      low = 4294836225;
-      P = 2287957920;
-      Q = 4761051;
-      a = first 0 0;
-      h = replicate 15 3200;
-    })
     -- a refused opening keeps nothing, not even the offset
     ∷ played (offsetBy 4 (pos 5)) [] (record {
       code = 0;

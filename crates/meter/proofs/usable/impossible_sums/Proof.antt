@@ -10,7 +10,7 @@ use lib.IntN.{natAbs}
 use mir.Facts.{toZ-ofZ}
 use Rattle.level.specs.Types.{twoWords}
 use Rattle.sample.specs.Sample.{mostSamples}
-use Rattle.meter.specs.Refusals.{sumBound, squareBound, manySamples, largeSum, largeSquares, largeP, largeQ, impossibleSums}
+use Rattle.meter.specs.Refusals.{sumBound, squareBound, envelopeBound, manySamples, largeSum, largeSquares, largeP, largeQ, impossibleSums}
 use Rattle.meter.proofs.Below.{stop, go-on, at-last}
 use Rattle.meter.proofs.usable.impossible_sums.Statement.{statement}
 use Rattle.meter.proofs.usable.impossible_sums.Tie as tie
@@ -84,14 +84,16 @@ unfolding impossibleSums largeP
 returns-4 c =
     let f = c .before .before in
     let e = above-at f in
-    go-on _ _ (n-ok (magnitude-at e)) (go-on _ _ (s-ok e) (go-on _ _ (sq-ok f) (stop _ _ (lt-ltb _ _ (c .if4 .taken)))))
+    let P = start-at (magnitude-at e) .args .sums .p in
+    go-on _ _ (n-ok (magnitude-at e)) (go-on _ _ (s-ok e) (go-on _ _ (sq-ok f) (stop _ _ (lt-ltb envelopeBound P (omega (arith, c .if4 .taken))))))
 
 returns-5 : tie.Need-returns-5
 unfolding impossibleSums largeP largeQ
 returns-5 c =
     let f = c .before .before .before in
     let e = above-at f in
-    go-on _ _ (n-ok (magnitude-at e)) (go-on _ _ (s-ok e) (go-on _ _ (sq-ok f) (go-on _ _ (le-ltb _ _ (c .before .if4 .left)) (at-last _))))
+    let P = start-at (magnitude-at e) .args .sums .p in
+    go-on _ _ (n-ok (magnitude-at e)) (go-on _ _ (s-ok e) (go-on _ _ (sq-ok f) (go-on _ _ (le-ltb envelopeBound P (omega (arith, c .before .if4 .left))) (at-last _))))
 
 pub impossible-sums-spec : {M : Type 1} → statement M
 impossible-sums-spec =
