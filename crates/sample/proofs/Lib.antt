@@ -1,4 +1,5 @@
 pub mod Activity
+mod Bands
 pub mod Envelope
 mod Front
 mod Moved
@@ -8,4 +9,5 @@ mod Numbers
 mod Ran
 mod Settling
 pub mod Signs
+pub mod Thresholds
 mod Turning

@@ -11,7 +11,8 @@ use lib.Dec.{leb, ltb}
 use lib.ListN.{getD}
 use Rattle.sample.specs.Activity.{counted, hung}
 use Rattle.sample.specs.Sample.{hangovers}
-use Rattle.sample.specs.Inner.Runs.{countOver, hangoverOver, plainCounts, countsBy, hangoversBy, Clear}
+use Rattle.sample.specs.Inner.Bands.{Clear}
+use Rattle.sample.specs.Inner.Runs.{countOver, hangoverOver, plainCounts, countsBy, hangoversBy}
 use Rattle.sample.proofs.Activity.{counted-le, hung-le}
 use Rattle.sample.proofs.Places.{each-at, each-same}
 

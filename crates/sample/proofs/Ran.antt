@@ -18,7 +18,8 @@ use Rattle.sample.specs.declared.step.Moving.{Moving}
 use Rattle.sample.specs.Envelope.{threshold}
 use Rattle.sample.specs.Sample.{summed, counts, hangovers, stateAfterOne, stateAfter}
 use Rattle.sample.specs.Inner.Steps.{moved, ended, Room}
-use Rattle.sample.specs.Inner.Runs.{plainCounts, countsBy, hangoversBy, Clear, stateOf, led, ledBy, Runnable, Ran}
+use Rattle.sample.specs.Inner.Bands.{Clear}
+use Rattle.sample.specs.Inner.Runs.{plainCounts, countsBy, hangoversBy, stateOf, led, ledBy, Runnable, Ran}
 use Rattle.sample.proofs.Moved.{Sized, up-to, ended-at, room-less, room-after}
 use Rattle.sample.proofs.Over.{same-side, one-counts, one-hangovers}
 use Rattle.sample.proofs.Numbers.{counts-plain}

@@ -1,5 +1,5 @@
 -- Settling counters: a place at a time, twice over, and what the counters then stand for.
-use mathlib.Core.Bool.{Bool, true, false, _&&_, _||_}
+use mathlib.Core.Bool.{Bool, true, false, _&&_, _||_, or-true}
 use mathlib.Core.List.{List}
 use mathlib.Core.Path.{_≡_, refl, sym, ap, _∙_, subst}
 use Prim.Native.Nat.{ℕ, _+_, _-_, _^_, _≤_, _<_, max}
@@ -65,6 +65,25 @@ same-places from to j i l m h = go (between from j i) refl (between from to i) r
         let e = between-in from j i (b .0) (omega (arith, b .0, b .1)) in
         absurd (subst T (sym e ∙ p) tt)
     go false p false q = p ∙ sym q
+
+-- a threshold that was not crossed, either way, is still on the same side
+pub uncrossed : (was is j : ℕ) → between was is j || between is was j ≡ false → ltb j was ≡ ltb j is
+uncrossed was is j e = go (ltb j was) refl (ltb j is) refl
+  where
+    go : (x : Bool) → ltb j was ≡ x → (y : Bool) → ltb j is ≡ y → ltb j was ≡ ltb j is
+    go true p true q = p ∙ sym q
+    go true p false q =
+        absurd (subst T (sym (or-true (between was is j)) ∙ ap (λ (b : Bool). between was is j || b) (sym (between-in is was j (ltb-false j is q) (ltb-true j was p))) ∙ e) tt)
+    go false p true q = absurd (subst T (ap (λ (b : Bool). b || between is was j) (sym (between-in was is j (ltb-false j was p) (ltb-true j is q))) ∙ e) tt)
+    go false p false q = p ∙ sym q
+
+-- those below a place and those from it on are all
+pub all-places : (was k j : ℕ) → j < k → between 0 was j || between was k j ≡ true
+all-places was k j l = go (ltb j was) refl
+  where
+    go : (x : Bool) → ltb j was ≡ x → between 0 was j || between was k j ≡ true
+    go true p = ap (λ (b : Bool). b || between was k j) (between-in 0 was j (omega arith) (ltb-true j was p))
+    go false p = ap (λ (b : Bool). between 0 was j || b) (between-in was k j (ltb-false j was p) l) ∙ or-true (between 0 was j)
 
 -- ---- a turn of the loop
 

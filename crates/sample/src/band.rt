@@ -1,15 +1,14 @@
-// The band between two neighbouring thresholds in which the envelope lies.
+// The bands between neighbouring thresholds, and the search for the one in which the envelope lies. No
+// threshold is stored: the search takes them one at a time, each worked out from the one before.
 ghost use mathlib.Core.Path.{_≡_};
 ghost use Prim.Native.Nat.{_≤_, _^_, min};
 ghost use Rattle.level.specs.Types.{thresholds};
-ghost use Rattle.sample.specs.Envelope.{threshold};
-ghost use Rattle.sample.specs.Inner.Runs.{Around};
+ghost use Rattle.sample.specs.Envelope.{threshold, nextThreshold};
+ghost use Rattle.sample.specs.Inner.Bands.{bandAt, IsBand, Searchable, Begun, Around, Before, UpTo};
 use level::THRESHOLDS;
 
-// The lowest threshold, and its place among the powers of two.
-const LOWEST: u64 = 1 << 24;
-
-const LOWEST_PLACE: u64 = 24;
+// The first threshold.
+const FIRST: u64 = 1 << 24;
 
 // From low up to, not including, high: no threshold lies between them. So many of the thresholds are
 // at or below low.
@@ -19,33 +18,77 @@ pub struct Band {
     pub below: usize,
 }
 
-// The band around an envelope. Thresholds are powers of two from 2^24 on.
-pub fn around(q: u64) -> Band
-    requires { ⌜ q ≤ 2 ^ 40 ⌝ }
-    ensures { λ r. ⌜ Around threshold thresholds q (r .low) (r .high) (r .below) ⌝ }
-{
-    if q < LOWEST {
-        return Band {
+impl Band {
+    // Below the first threshold.
+    pub fn lowest() -> Band
+        ensures { λ r. ⌜ r ≡ bandAt threshold thresholds 0 ⌝ }
+    {
+        Band {
             low: 0,
-            high: LOWEST,
+            high: FIRST,
             below: 0,
-        };
+        }
     }
-    let place = level::top_place(q);
-    let low = 1u64 << place;
-    Band {
-        low,
-        high: 2 * low,
-        below: at_most_all(place + 1 - LOWEST_PLACE),
+
+    // The band around an envelope: this one, where no threshold was crossed. Past the last threshold
+    // doubling goes on, and nothing more is counted.
+    pub fn around(self, q: u64) -> Band
+        requires { ⌜ Searchable threshold thresholds q self ⌝ }
+        ensures { λ r. ⌜ Around threshold thresholds q r ⌝ }
+    {
+        if self.low <= q {
+            if q < self.high {
+                return self;
+            }
+        }
+        let from = self.begin(q);
+        let mut c = from.high;
+        let mut j = from.below;
+        while c <= q {
+            c = next_threshold(c);
+            j += 1;
+        }
+        Band::up_to(j, c)
+    }
+
+    // Where the search begins: upwards at this band, downwards at the lowest again, since each threshold
+    // comes from the one before it.
+    fn begin(self, q: u64) -> Band
+        requires { ⌜ IsBand threshold thresholds self ⌝ }
+        ensures { λ r. ⌜ Begun threshold thresholds q r ⌝ }
+    {
+        if q < self.low { Band::lowest() } else { self }
+    }
+
+    // The band up to c, the threshold at place j.
+    fn up_to(j: usize, c: u64) -> Band
+        ensures { λ r. ⌜ UpTo threshold thresholds j c r ⌝ }
+    {
+        Band {
+            low: one_before(j, c),
+            high: c,
+            below: at_most_all(j),
+        }
     }
 }
 
-fn at_most_all(x: u64) -> usize
+// The threshold after c.
+fn next_threshold(c: u64) -> u64
+    requires { ⌜ c ≤ 2 ^ 40 ⌝ }
+    ensures { λ r. ⌜ r ≡ nextThreshold c ⌝ }
+{
+    2 * c
+}
+
+// The threshold before c, which has place j; 0 before the first.
+fn one_before(j: usize, c: u64) -> u64
+    ensures { λ r. ⌜ Before threshold thresholds j c r ⌝ }
+{
+    if j == 0 { 0 } else { c / 2 }
+}
+
+fn at_most_all(x: usize) -> usize
     ensures { λ r. ⌜ r ≡ min x thresholds ⌝ }
 {
-    if x < THRESHOLDS as u64 {
-        x as usize
-    } else {
-        THRESHOLDS
-    }
+    if x < THRESHOLDS { x } else { THRESHOLDS }
 }

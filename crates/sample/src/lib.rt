@@ -11,6 +11,7 @@ mod plain;
 mod runs;
 mod step;
 
+use band::Band;
 pub use plain::counts;
 ghost use mathlib.Core.Path.{_≡_};
 ghost use lib.ListN.{length};
@@ -57,7 +58,7 @@ impl State {
         }
         let before = self.sums;
         let mut moving = before.begin().step(by, xs[0]);
-        let mut band = band::around(moving.q);
+        let mut band = Band::lowest().around(moving.q);
         let counts = self.a;
         let mut a = plain::numbers(counts);
         let mut h = self.h;
@@ -67,7 +68,7 @@ impl State {
             let run = runs::run_on(moving, by, band, xs, at);
             at = run.end;
             moving = run.last;
-            let next = band::around(moving.q);
+            let next = band.around(moving.q);
             counters::cross(
                 &mut a,
                 &mut h,

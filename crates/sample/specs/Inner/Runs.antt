@@ -2,7 +2,6 @@
 -- many there are.
 use mathlib.Core.Bool.{Bool, cond, _&&_}
 use mathlib.Core.List.{List, [], _∷_, map}
-use mathlib.Core.Logic.{_⊎_}
 use mathlib.Core.Path.{_≡_}
 use Prim.Native.Nat.{ℕ, zero, suc, _+_, _-_, _^_, _≤_, _<_, min}
 use lib.Dec.{leb, ltb}
@@ -17,6 +16,7 @@ use Rattle.sample.specs.declared.step.Moving.{Moving}
 use Rattle.sample.specs.Activity.{counted, hung}
 use Rattle.sample.specs.Envelope.{smoothing, threshold}
 use Rattle.sample.specs.Sample.{each, hangovers, stateAfter}
+use Rattle.sample.specs.Inner.Bands.{Clear}
 use Rattle.sample.specs.Inner.Steps.{ended, Room}
 
 -- one counter after d samples on the same side of its threshold
@@ -76,22 +76,6 @@ pub record Settled (k I at : ℕ) (one on : ℕ → Bool) (a h since a′ h′ s
 -- whether j is from one place up to another
 unfoldable pub between : (from to j : ℕ) → Bool
 between from to j = leb from j && ltb j to
-
--- no threshold lies above low and below high
-pub record Clear (c : ℕ → ℕ) (low high : ℕ) : Type 0 where
-  pub side : (j : ℕ) → (c j ≤ low) ⊎ (high ≤ c j)
-
--- so many of the k thresholds are at or below low
-pub record Below (c : ℕ → ℕ) (k low below : ℕ) : Type 0 where
-  pub at-most : below ≤ k
-  pub side : (j : ℕ) → j < k → leb (c j) low ≡ ltb j below
-
--- the band around an envelope q
-pub record Around (c : ℕ → ℕ) (k q low high below : ℕ) : Type 0 where
-  pub clear : Clear c low high
-  pub sides : Below c k low below
-  pub from : low ≤ q
-  pub to : q < high
 
 -- plain numbers from counts of samples
 abbrev pub numbersOf : List Samples → List ℕ

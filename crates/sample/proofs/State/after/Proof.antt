@@ -19,6 +19,7 @@ use Rattle.sample.specs.declared.Sums.{Sums}
 use Rattle.sample.specs.Sample.{mostSamples, listFrom, stateAfter}
 use Rattle.sample.specs.Inner.Steps.{begun, moved, Room}
 use Rattle.sample.specs.Inner.Runs.{Settled, numbersOf, stateOf}
+use Rattle.sample.proofs.Bands.{below-max}
 use Rattle.sample.proofs.Moved.{Sized, room-first, room-less}
 use Rattle.sample.proofs.Numbers.{typed-again, number-at}
 use Rattle.sample.proofs.Places.{at-or-past}
@@ -28,7 +29,7 @@ use Rattle.sample.proofs.State.after.Tie as tie
 
 abbrev Inv-loop : tie.InvT-loop
 Inv-loop by xs before moving₀ band₀ a₀ h₀ since₀ at₀ moving band a h since at =
-    Turning by before a₀ h₀ xs a h since moving (band .low) (band .high) (band .below) at
+    Turning by before a₀ h₀ xs a h since moving band at
 
 abbrev μ-loop : tie.MeasureT-loop
 μ-loop by xs before moving₀ band₀ a₀ h₀ since₀ at₀ moving band a h since at = length xs - at
@@ -42,7 +43,7 @@ abbrev start-at : tie.After-step Inv-loop μ-loop → tie.Start Inv-loop μ-loop
 start-at c = filled-at c .before
 
 abbrev stepped-at : tie.After-numbers Inv-loop μ-loop → tie.After-step Inv-loop μ-loop
-stepped-at c = c .before .before .before
+stepped-at c = c .before .before .before .before
 
 abbrev first-at : tie.At-loop Inv-loop μ-loop → tie.After-step Inv-loop μ-loop
 first-at c = stepped-at (c .before .before)
@@ -93,8 +94,12 @@ step-requires c κs =
 
 around-requires : tie.Need-around-requires Inv-loop μ-loop
 around-requires c κs =
-    let s = start-at c in
-    first-room (s .args .by) (s .args .self .sums) _ (s .args .xs .now) (some-sample (filled-at c)) (sized s) (first-fits c) (stepped c) (room-at-first (filled-at c)) .q-max
+    let f = c .before in
+    let s = start-at f in
+    record {
+      band = record { place = 0; is = c .lowest .ensures };
+      q-max = first-room (s .args .by) (s .args .self .sums) _ (s .args .xs .now) (some-sample (filled-at f)) (sized s) (first-fits f) (stepped f) (room-at-first (filled-at f)) .q-max;
+    }
 
 -- ---- the counters at first: the arrays have their lengths, and the counts are the state's
 
@@ -123,7 +128,7 @@ loop-holds c =
     let s = start-at f in
     let lh = h-length f in
     started (s .args .by) (s .args .self .sums) _ (s .args .xs .now) (some-sample (filled-at f)) (sized s) (first-fits f) (stepped f) (room-at-first (filled-at f))
-    (n .numbers .result) (s .args .self .h) _ _ _ (low-fits s) (sym (n .numbers .ensures .many)) (sym lh)
+    (n .numbers .result) (s .args .self .h) _ (low-fits s) (sym (n .numbers .ensures .many)) (sym lh)
     (at-or-past (n .numbers .result) thresholds (s .args .self .sums .n .0) (n .numbers .ensures .many) (numbers-max n))
     (at-or-past (s .args .self .h) thresholds (s .args .by .i) lh (s .pre .h-max))
     (n .before .before .around .ensures)
@@ -134,7 +139,7 @@ run-on-requires c κs =
     record { room = i .room; from = i .around .from; to = i .around .to; k-max = start-at (first-at (c .before)) .pre .k-max; some = c .loop-test .taken }
 
 around-requires-2 : tie.Need-around-requires-2 Inv-loop μ-loop
-around-requires-2 c κs = c .before .run-on .ensures .room .q-max
+around-requires-2 c κs = let r = c .before in record { band = r .before .before .loop .inv .around .band; q-max = r .run-on .ensures .room .q-max }
 
 cross-requires : tie.Need-cross-requires Inv-loop μ-loop
 cross-requires c κs =
@@ -142,9 +147,9 @@ cross-requires c κs =
     let i = r .before .before .loop .inv in
     let e = r .run-on .ensures in
     record {
-      standing = standing _ _ _ _ _ _ _ _ _ _ _ _ _ i (start-at (first-at (r .before .before)) .pre .room) (r .run-on .result .end) (omega (arith, e .on)) (e .within);
-      was-max = i .around .sides .at-most;
-      is-max = c .before .before .before .around2 .ensures .sides .at-most;
+      standing = standing _ _ _ _ _ _ _ _ _ _ _ i (start-at (first-at (r .before .before)) .pre .room) (r .run-on .result .end) (omega (arith, e .on)) (e .within);
+      was-max = below-max _ _ _ (i .around .band);
+      is-max = below-max _ _ _ (c .before .before .before .around2 .ensures .band);
     }
 
 fall : (l i end : ℕ) → i < end → end ≤ l → l - end < l - i
@@ -157,7 +162,7 @@ loop-again : tie.Need-loop-again Inv-loop μ-loop
 loop-again c =
     let r = ran-at (c .before) in
     let l = r .before .before in
-    turned _ _ _ _ _ _ _ _ _ _ _ _ _ (l .loop .inv) (start-at (first-at l) .pre .room) (r .run-on .result .last) (r .run-on .result .end) _ _ _ (r .run-on .ensures)
+    turned _ _ _ _ _ _ _ _ _ _ _ (l .loop .inv) (start-at (first-at l) .pre .room) (r .run-on .result .last) (r .run-on .result .end) _ (r .run-on .ensures)
     (c .before .before .before .before .around2 .ensures) _ _ _ (c .cross .ensures)
 
 finish-requires : tie.Need-finish-requires Inv-loop μ-loop
@@ -165,8 +170,8 @@ finish-requires c κs =
     let l = c .before .before .before .before in
     let i = l .loop .inv in
     record {
-      standing = standing _ _ _ _ _ _ _ _ _ _ _ _ _ i (start-at (first-at l) .pre .room) (l .loop .at) (omega arith) (i .within);
-      was-max = i .around .sides .at-most;
+      standing = standing _ _ _ _ _ _ _ _ _ _ _ i (start-at (first-at l) .pre .room) (l .loop .at) (omega arith) (i .within);
+      was-max = below-max _ _ _ (i .around .band);
       is-max = omega arith;
     }
 
@@ -195,7 +200,7 @@ returns-2 c =
     let k = l .before .before in
     let s = start-at (stepped-at k) in
     typed _ _ (counts-of (n .finish .ensures)) _ _ (c .before .end .ensures) (c .counts2 .ensures)
-    ∙ finished _ _ _ _ _ _ _ _ _ _ _ _ _ (l .loop .inv) (s .pre .room) _ _ _ (n .finish .ensures) (o .loop-test .left)
+    ∙ finished _ _ _ _ _ _ _ _ _ _ _ (l .loop .inv) (s .pre .room) _ _ _ (n .finish .ensures) (o .loop-test .left)
     ∙ ap (λ (x : List Samples). stateAfter (s .args .by) (record { sums = s .args .self .sums; a = x; h = s .args .self .h }) (s .args .xs .now))
     (ap (λ (x : List ℕ). map samplesOf x) (numbers-are k) ∙ typed-again (s .args .self .a))
 
@@ -209,6 +214,7 @@ after-spec =
     (λ c κs. search needs)
     shared-slice-copy-out-step
     step-requires
+    (λ c κs. search needs)
     around-requires
     (λ c κs. search needs)
     loop-holds
