@@ -1,6 +1,7 @@
 -- The whole claim: `claim`. Each clause is a theorem of its own, of the meter's crate or of this one.
 use mathlib.Core.Path.{sym, subst}
 use Rattle.block.proofs.Laws.{host-given}
+use Rattle.sample.proofs.Thresholds.{worked-out}
 use Rattle.meter.specs.Opened.{Fresh}
 use Rattle.meter.proofs.Laws.{open-given, chunk-given, block-given, report-given, refused-chunk, refused-block, report-meter, refused-report, refused-open, zeros-chunk, zeros-block, zeros-report, opened, fresh-fields, factor-never-above, percent-never-smaller, block-taken, block-samples, chunk-samples, empty-chunk}
 use Rattle.meter.proofs.Outcome.{answered}
@@ -34,6 +35,7 @@ demand2 =
       opened = λ c z. subst (Fresh c) (sym (opened c z)) (fresh-fields c);
       measured = measured;
       no-offset = no-offset;
+      worked-out = λ j l. worked-out j;
       reported = answered;
       factor = factor-never-above;
       percent-never-falls = percent-never-smaller;

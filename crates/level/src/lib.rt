@@ -168,7 +168,7 @@ fn two_words(high: u64, low: u64) -> u64
 }
 
 // The place of the highest one bit of a word, the lowest place being 0; 0 for the word 0.
-pub fn top_place(word: u64) -> u64
+fn top_place(word: u64) -> u64
     ensures { λ r. ⌜ r ≡ placeUpTo 63 word ⌝ }
 {
     if word == 0 {

@@ -1,12 +1,12 @@
 -- The thresholds worked out while counting are the c_j, since each c_j is twice the one before. They rise, and none is below its place.
-use mathlib.Core.Path.{_≡_, refl, ap, _∙_}
+use mathlib.Core.Path.{_≡_, refl, ap, _∙_, subst₂, sym}
 use Prim.Native.Nat.{ℕ, zero, suc, _+_, _*_, _/_, _^_, _≤_, _<_}
 use native.Mathlib.Nat.{two-pow-succ}
 use native.Mathlib.Omega.{arith}
-use lib.Pow.{pow-pos, pow-mono}
+use lib.Pow.{pow-mono}
 use Rattle.sample.specs.Envelope.{threshold, nextThreshold, workedOut}
 
-pub twice : (j : ℕ) → nextThreshold (threshold j) ≡ threshold (suc j)
+twice : (j : ℕ) → nextThreshold (threshold j) ≡ threshold (suc j)
 unfolding threshold
 twice j = doubled (j + 24) ∙ ap (λ (e : ℕ). 2 ^ e) (omega arith)
   where
@@ -19,17 +19,23 @@ unfolding workedOut threshold
 worked-out zero = refl
 worked-out (suc j) = ap nextThreshold (worked-out j) ∙ twice j
 
-pub half : (j : ℕ) → threshold (suc j) / 2 ≡ threshold j
-half j = omega (arith, twice j)
-
-pub rising : (i j : ℕ) → i ≤ j → threshold i ≤ threshold j
+pub rising : (i j : ℕ) → i ≤ j → workedOut i ≤ workedOut j
 unfolding threshold
-rising i j l = pow-mono {i = i + 24} {j = j + 24} (omega arith)
+rising i j l = subst₂ (λ (x y : ℕ). x ≤ y) (sym (worked-out i)) (sym (worked-out j)) (pow-mono {i = i + 24} {j = j + 24} (omega arith))
 
-pub positive : (j : ℕ) → 0 < threshold j
-unfolding threshold
-positive j = pow-pos (j + 24)
+pub half : (j : ℕ) → workedOut (suc j) / 2 ≡ workedOut j
+unfolding workedOut
+half j = halved (workedOut j)
+  where
+    halved : (c : ℕ) → nextThreshold c / 2 ≡ c
+    halved c = omega arith
 
-pub place-le : (j : ℕ) → j ≤ threshold j
+pub positive : (j : ℕ) → 0 < workedOut j
+unfolding workedOut
+positive zero = omega arith
+positive (suc j) = omega (arith, positive j)
+
+pub place-le : (j : ℕ) → j ≤ workedOut j
+unfolding workedOut
 place-le zero = omega arith
-place-le (suc j) = omega (arith, place-le j, twice j, positive j)
+place-le (suc j) = omega (arith, place-le j, positive j)

@@ -1,7 +1,8 @@
 -- The loop over runs: how it stands, a turn of it, and its end.
 use mathlib.Core.Bool.{Bool, cond, _||_}
 use mathlib.Core.List.{List}
-use mathlib.Core.Path.{_≡_, ap, ap₂, _∙_, sym}
+use mathlib.Core.Logic.{_⊎_}
+use mathlib.Core.Path.{_≡_, ap, ap₂, _∙_, sym, subst}
 use Prim.Native.Nat.{ℕ, _+_, _-_, _^_, _≤_, _<_, min}
 use native.Mathlib.Nat.{le-refl, lt-of-le-of-lt}
 use native.Mathlib.Omega.{arith}
@@ -15,9 +16,9 @@ use Rattle.sample.specs.declared.Counting.{Counting}
 use Rattle.sample.specs.declared.Sums.{Sums}
 use Rattle.sample.specs.declared.band.Band.{Band}
 use Rattle.sample.specs.declared.step.Moving.{Moving}
-use Rattle.sample.specs.Envelope.{threshold}
+use Rattle.sample.specs.Envelope.{threshold, workedOut}
 use Rattle.sample.specs.Sample.{mostSamples, each, summed, stateAfter}
-use Rattle.sample.specs.Inner.Bands.{Around}
+use Rattle.sample.specs.Inner.Bands.{Clear, IsBand, Around}
 use Rattle.sample.specs.Inner.Steps.{begun, moved, ended, Room}
 use Rattle.sample.specs.Inner.Runs.{countOver, hangoverOver, countsBy, hangoversBy, Standing, Settled, between, stateOf, led, ledBy, Ran}
 use Rattle.sample.proofs.Bands.{clear, sides}
@@ -25,8 +26,18 @@ use Rattle.sample.proofs.Places.{list-length, each-at, each-same, is-ea
 use Rattle.sample.proofs.Over.{no-count, no-hangover}
 use Rattle.sample.proofs.Moved.{Sized, ended-none, ended-at, up-to-end, room-less, room-after}
 use Rattle.sample.proofs.Ran.{none-left, step-is}
-use Rattle.sample.proofs.Thresholds.{rising}
+use Rattle.sample.proofs.Thresholds.{worked-out, rising}
 use Rattle.sample.proofs.Settling.{uncrossed, all-places, stands-count, stands-hangover, index-le, count-le, hangover-le}
+
+-- ---- a band of what was worked out is one of the c_j
+
+above-thresholds : (q : ℕ) (b : Band) → Around workedOut thresholds q b → (j : ℕ) → j < thresholds → leb (threshold j) (b .low) ≡ ltb j (b .below)
+above-thresholds q b a j l = ap (λ (c : ℕ). leb c (b .low)) (sym (worked-out j)) ∙ sides workedOut rising thresholds q b a j l
+
+clear-of-thresholds : (b : Band) → IsBand workedOut thresholds b → Clear threshold (b .low) (b .high)
+clear-of-thresholds b i = record { side = λ j. subst (λ (c : ℕ). (c ≤ b .low) ⊎ (b .high ≤ c)) (worked-out j) (clear workedOut rising thresholds b i .side j) }
+
+-- ---- the loop
 
 -- at index at: m is what the sample there left, and each counter stands for the envelope's band. The sums were b and the counters a₀ and h₀ before the
 -- samples
@@ -39,7 +50,7 @@ pub record Turning (by : Counting) (b : Sums) (a₀ h₀ : List ℕ) (xs : List 
   pub index : (j : ℕ) → getD since j 0 ≤ at
   pub a-max : (j : ℕ) → getD a j 0 ≤ b .n .0 + getD since j 0
   pub h-max : (j : ℕ) → getD h j 0 ≤ by .i
-  pub around : Around threshold thresholds (m .q) band
+  pub around : Around workedOut thresholds (m .q) band
   pub rest : ledBy by b m (band .low) at since a h xs ≡ stateAfter by (stateOf b a₀ h₀) xs
 
 -- ---- the start
@@ -71,7 +82,7 @@ module _ (by : Counting) (b : Sums) (m : Moving) (xs : List ℤ) (some : 0 < len
   first-room = room-after by (begun b) m _ 0 (length xs) some k f e (room-less _ _ (begun b) (omega arith) r)
 
   pub started : (a h : List ℕ) (band : Band) → b .sq .low < 2 ^ 64 → thresholds ≡ length a → thresholds ≡ length h
-      → ((j : ℕ) → getD a j 0 ≤ b .n .0) → ((j : ℕ) → getD h j 0 ≤ by .i) → Around threshold thresholds (m .q) band
+      → ((j : ℕ) → getD a j 0 ≤ b .n .0) → ((j : ℕ) → getD h j 0 ≤ by .i) → Around workedOut thresholds (m .q) band
       → Turning by b a h xs a h (each thresholds (λ _. 0)) m band 0
   unfolding zeros
   started a h band fits la lh am hm ar =
@@ -110,17 +121,17 @@ module _ (by : Counting) (b : Sums) (a₀ h₀ : List ℕ) (xs : List ℤ) (a h 
 
   -- which thresholds the band is above
   reached : (j : ℕ) → j < thresholds → leb (threshold j) (band .low) ≡ ltb j (band .below)
-  reached = sides threshold rising thresholds (m .q) band (t .around)
+  reached = above-thresholds (m .q) band (t .around)
 
   -- ---- a turn
 
-  module _ (r : Moving) (end : ℕ) (next : Band) (R : Ran by (band .low) (band .high) m xs at r end) (A : Around threshold thresholds (r .q) next)
+  module _ (r : Moving) (end : ℕ) (next : Band) (R : Ran by (band .low) (band .high) m xs at r end) (A : Around workedOut thresholds (r .q) next)
       (a′ h′ since′ : List ℕ) (S : Settled thresholds (by .i) end (λ j. between (band .below) (next .below) j || between (next .below) (band .below) j) (λ j. ltb j (band .below)) a h since a′ h′ since′) where
     same-counts : countsBy threshold thresholds (by .i) (next .low) end since′ a′ h′ ≡ countsBy threshold thresholds (by .i) (band .low) end since a h
     unfolding countsBy
     same-counts =
         each-same thresholds _ _ (λ j l.
-        ap (λ (o : Bool). countOver (by .i) o (end - getD since′ j 0) (getD a′ j 0) (getD h′ j 0)) (sides threshold rising thresholds _ next A j l)
+        ap (λ (o : Bool). countOver (by .i) o (end - getD since′ j 0) (getD a′ j 0) (getD h′ j 0)) (above-thresholds _ next A j l)
         ∙ stands-count (by .i) end _ _ _ (getD a j 0) (getD h j 0) (getD since j 0) (getD a′ j 0) (getD h′ j 0) (getD since′ j 0) (S .each-one j) (uncrossed (band .below) (next .below) j)
         ∙ ap (λ (o : Bool). countOver (by .i) o (end - getD since j 0) (getD a j 0) (getD h j 0)) (sym (reached j l)))
 
@@ -128,7 +139,7 @@ module _ (by : Counting) (b : Sums) (a₀ h₀ : List ℕ) (xs : List ℤ) (a h 
     unfolding hangoversBy
     same-hangovers =
         each-same thresholds _ _ (λ j l.
-        ap (λ (o : Bool). hangoverOver (by .i) o (end - getD since′ j 0) (getD h′ j 0)) (sides threshold rising thresholds _ next A j l)
+        ap (λ (o : Bool). hangoverOver (by .i) o (end - getD since′ j 0) (getD h′ j 0)) (above-thresholds _ next A j l)
         ∙ stands-hangover (by .i) end _ _ _ (getD a j 0) (getD h j 0) (getD since j 0) (getD a′ j 0) (getD h′ j 0) (getD since′ j 0) (S .each-one j) (uncrossed (band .below) (next .below) j)
         ∙ ap (λ (o : Bool). hangoverOver (by .i) o (end - getD since j 0) (getD h j 0)) (sym (reached j l)))
 
@@ -146,7 +157,7 @@ module _ (by : Counting) (b : Sums) (a₀ h₀ : List ℕ) (xs : List ℤ) (a h 
           around = A;
           rest =
               ap₂ (λ (x y : List ℕ). led by (ended b r (min (end + 1) (length xs))) x y (drop end xs)) same-counts same-hangovers
-              ∙ sym (R .same b (band .low) since a h (le-refl (band .low)) (lt-of-le-of-lt (t .around .from) (t .around .to)) (clear threshold rising thresholds band (t .around .band)) (t .index))
+              ∙ sym (R .same b (band .low) since a h (le-refl (band .low)) (lt-of-le-of-lt (t .around .from) (t .around .to)) (clear-of-thresholds band (t .around .band)) (t .index))
               ∙ t .rest;
         }
       where

@@ -3,7 +3,7 @@
 ghost use mathlib.Core.Path.{_≡_};
 ghost use Prim.Native.Nat.{_≤_, _^_, min};
 ghost use Rattle.level.specs.Types.{thresholds};
-ghost use Rattle.sample.specs.Envelope.{threshold, nextThreshold};
+ghost use Rattle.sample.specs.Envelope.{nextThreshold, workedOut};
 ghost use Rattle.sample.specs.Inner.Bands.{bandAt, IsBand, Searchable, Begun, Around, Before, UpTo};
 use level::THRESHOLDS;
 
@@ -21,7 +21,7 @@ pub struct Band {
 impl Band {
     // Below the first threshold.
     pub fn lowest() -> Band
-        ensures { λ r. ⌜ r ≡ bandAt threshold thresholds 0 ⌝ }
+        ensures { λ r. ⌜ r ≡ bandAt workedOut thresholds 0 ⌝ }
     {
         Band {
             low: 0,
@@ -33,8 +33,8 @@ impl Band {
     // The band around an envelope: this one, where no threshold was crossed. Past the last threshold
     // doubling goes on, and nothing more is counted.
     pub fn around(self, q: u64) -> Band
-        requires { ⌜ Searchable threshold thresholds q self ⌝ }
-        ensures { λ r. ⌜ Around threshold thresholds q r ⌝ }
+        requires { ⌜ Searchable workedOut thresholds q self ⌝ }
+        ensures { λ r. ⌜ Around workedOut thresholds q r ⌝ }
     {
         if self.low <= q {
             if q < self.high {
@@ -54,15 +54,15 @@ impl Band {
     // Where the search begins: upwards at this band, downwards at the lowest again, since each threshold
     // comes from the one before it.
     fn begin(self, q: u64) -> Band
-        requires { ⌜ IsBand threshold thresholds self ⌝ }
-        ensures { λ r. ⌜ Begun threshold thresholds q r ⌝ }
+        requires { ⌜ IsBand workedOut thresholds self ⌝ }
+        ensures { λ r. ⌜ Begun workedOut thresholds q r ⌝ }
     {
         if q < self.low { Band::lowest() } else { self }
     }
 
     // The band up to c, the threshold at place j.
     fn up_to(j: usize, c: u64) -> Band
-        ensures { λ r. ⌜ UpTo threshold thresholds j c r ⌝ }
+        ensures { λ r. ⌜ UpTo workedOut thresholds j c r ⌝ }
     {
         Band {
             low: one_before(j, c),
@@ -82,7 +82,7 @@ fn next_threshold(c: u64) -> u64
 
 // The threshold before c, which has place j; 0 before the first.
 fn one_before(j: usize, c: u64) -> u64
-    ensures { λ r. ⌜ Before threshold thresholds j c r ⌝ }
+    ensures { λ r. ⌜ Before workedOut thresholds j c r ⌝ }
 {
     if j == 0 { 0 } else { c / 2 }
 }

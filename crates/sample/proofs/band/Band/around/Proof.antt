@@ -4,23 +4,24 @@ use mathlib.Core.Path.{_≡_, ap, _∙_}
 use Prim.Native.Nat.{ℕ, _+_, _-_, _^_, _≤_, _<_}
 use native.Mathlib.Omega.{arith}
 use Rattle.level.specs.Types.{thresholds}
-use Rattle.sample.specs.Envelope.{threshold, nextThreshold}
+use Rattle.sample.specs.Envelope.{nextThreshold, workedOut}
 use Rattle.sample.proofs.Bands.{Reaching, set-out, gone-up, found}
-use Rattle.sample.proofs.Thresholds.{twice, positive, place-le}
+use Rattle.sample.proofs.Thresholds.{positive, place-le}
 use Rattle.sample.proofs.band.Band.around.Statement.{statement}
 use Rattle.sample.proofs.band.Band.around.Tie as tie
 
 abbrev Inv-loop : tie.InvT-loop
-Inv-loop q c₀ j₀ c j = Reaching threshold thresholds q j c
+Inv-loop q c₀ j₀ c j = Reaching workedOut thresholds q j c
 
 abbrev μ-loop : tie.MeasureT-loop
 μ-loop q c₀ j₀ c j = q + 1 - c
 
 -- ---- a turn
 
-module _ (q j v : ℕ) (r : Reaching threshold thresholds q j v) (l : v ≤ q) (m : q ≤ 2 ^ 40) where
-  turned : (w : ℕ) → w ≡ nextThreshold v → Reaching threshold thresholds q (j + 1) w
-  turned w e = gone-up threshold thresholds q j v w r l (e ∙ ap nextThreshold (r .placed .is) ∙ twice (r .place))
+module _ (q j v : ℕ) (r : Reaching workedOut thresholds q j v) (l : v ≤ q) (m : q ≤ 2 ^ 40) where
+  turned : (w : ℕ) → w ≡ nextThreshold v → Reaching workedOut thresholds q (j + 1) w
+  unfolding workedOut
+  turned w e = gone-up workedOut thresholds q j v w r l (e ∙ ap nextThreshold (r .placed .is))
 
   falls : (w : ℕ) → w ≡ nextThreshold v → q + 1 - w < q + 1 - v
   falls w e = omega (arith, positive (r .place), r .placed .is)
@@ -40,7 +41,7 @@ begin-requires : tie.Need-begin-requires Inv-loop μ-loop
 begin-requires c κs = c .before .before .pre .band
 
 loop-holds : tie.Need-loop-holds Inv-loop μ-loop
-loop-holds c = set-out threshold thresholds _ _ (c .begin .ensures)
+loop-holds c = set-out workedOut thresholds _ _ (c .begin .ensures)
 
 next-threshold-requires : tie.Need-next-threshold-requires Inv-loop μ-loop
 next-threshold-requires c κs = omega (arith, c .loop-test .taken, c .before .before .before .before .before .pre .q-max)
@@ -55,7 +56,7 @@ loop-again : tie.Need-loop-again Inv-loop μ-loop
 loop-again c = let l = c .before in turned _ _ _ (l .before .loop .inv) (l .loop-test .taken) (start-at c .pre .q-max) _ (c .next-threshold .ensures)
 
 returns-2 : tie.Need-returns-2 Inv-loop μ-loop
-returns-2 c = let l = c .before in found threshold thresholds _ _ _ _ (l .before .loop .inv) (l .loop-test .left) (c .up-to .ensures)
+returns-2 c = let l = c .before in found workedOut thresholds _ _ _ _ (l .before .loop .inv) (l .loop-test .left) (c .up-to .ensures)
 
 pub around-spec : {M : Type 1} → statement M
 around-spec =

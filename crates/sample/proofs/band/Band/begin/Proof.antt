@@ -5,12 +5,12 @@ use Prim.Native.Nat.{ℕ, _≤_}
 use native.Mathlib.Omega.{arith}
 use Rattle.level.specs.Types.{thresholds}
 use Rattle.sample.specs.declared.band.Band.{Band}
-use Rattle.sample.specs.Envelope.{threshold}
+use Rattle.sample.specs.Envelope.{workedOut}
 use Rattle.sample.specs.Inner.Bands.{lowEnd, bandAt, Begun}
 use Rattle.sample.proofs.band.Band.begin.Statement.{statement}
 use Rattle.sample.proofs.band.Band.begin.Tie as tie
 
-from-lowest : (q : ℕ) (b : Band) → b ≡ bandAt threshold thresholds 0 → Begun threshold thresholds q b
+from-lowest : (q : ℕ) (b : Band) → b ≡ bandAt workedOut thresholds 0 → Begun workedOut thresholds q b
 unfolding bandAt lowEnd
 from-lowest q b e = record { band = record { place = 0; is = e }; from = subst (λ (x : Band). x .low ≤ q) (sym e) (omega arith) }
 

@@ -4,7 +4,7 @@ use mathlib.Core.Path.{_≡_, ap, _∙_}
 use Prim.Native.Nat.{ℕ, min}
 use Rattle.level.specs.Types.{thresholds}
 use Rattle.sample.specs.declared.band.Band.{Band}
-use Rattle.sample.specs.Envelope.{threshold}
+use Rattle.sample.specs.Envelope.{workedOut}
 use Rattle.sample.specs.Inner.Bands.{lowEnd, bandAt, Before, UpTo}
 use Rattle.sample.proofs.band.Band.up_to.Statement.{statement}
 use Rattle.sample.proofs.band.Band.up_to.Tie as tie
@@ -17,7 +17,7 @@ made c k j v low below b e p q =
     ∙ ap (λ (x : ℕ). record { low = lowEnd c p; high = c p; below = x }) (e ∙ q .counted)
 
 returns : tie.Need-returns
-returns c = made threshold thresholds _ _ _ _ (c .before .one-before .ensures) (c .at-most-all .ensures)
+returns c = made workedOut thresholds _ _ _ _ (c .before .one-before .ensures) (c .at-most-all .ensures)
 
 pub up-to-spec : {M : Type 1} → statement M
 up-to-spec = tie.close (tie.spec (λ c κs. search needs) (λ c κs. search needs) returns)
