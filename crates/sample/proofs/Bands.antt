@@ -59,7 +59,7 @@ unfolding bandAt
 set-out c k q b g =
     let p = g .band .place in
     subst (λ (x : Band). Reaching c k q (x .below) (x .high)) (sym (g .band .is))
-    (record { place = p; placed = record { is = refl; counted = omega arith }; from = subst (λ (x : Band). x .low ≤ q) (g .band .is) (g .from); few = omega arith })
+    (record { place = p; placed = record { is = refl; place = omega arith }; from = subst (λ (x : Band). x .low ≤ q) (g .band .is) (g .from); few = omega arith })
 
 pub gone-up : (c : ℕ → ℕ) (k q j v w : ℕ) (r : Reaching c k q j v) → v ≤ q → w ≡ c (suc (r .place)) → Reaching c k q (j + 1) w
 unfolding lowEnd
@@ -67,7 +67,7 @@ gone-up c k q j v w r l e =
     let p = r .placed in
     record {
       place = suc (r .place);
-      placed = record { is = e; counted = omega (arith, p .counted) };
+      placed = record { is = e; place = omega (arith, p .place) };
       from = subst (λ (x : ℕ). x ≤ q) (p .is) l;
       few = omega (arith, r .few);
     }

@@ -8,9 +8,9 @@ use Rattle.sample.specs.Envelope.{threshold, nextThreshold, workedOut}
 
 twice : (j : ℕ) → nextThreshold (threshold j) ≡ threshold (suc j)
 unfolding threshold
-twice j = doubled (j + 24) ∙ ap (λ (e : ℕ). 2 ^ e) (omega arith)
+twice j = doubled _ ∙ ap (λ (e : ℕ). 2 ^ e) (omega arith)
   where
-    doubled : (e : ℕ) → 2 * 2 ^ e ≡ 2 ^ suc e
+    doubled : (e : ℕ) → nextThreshold (2 ^ e) ≡ 2 ^ suc e
     doubled e = omega (arith, two-pow-succ e)
 
 -- the j-th worked out is c_j

@@ -1,5 +1,5 @@
-// The bands between neighbouring thresholds, and the search for the one in which the envelope lies. No
-// threshold is stored: the search takes them one at a time, each worked out from the one before.
+// The bands between neighbouring thresholds, and the search for the one in which the envelope lies. There
+// is no table of thresholds: the search takes them one at a time, each worked out from the one before.
 ghost use mathlib.Core.Path.{_≡_};
 ghost use Prim.Native.Nat.{_≤_, _^_, min};
 ghost use Rattle.level.specs.Types.{thresholds};
@@ -30,14 +30,14 @@ impl Band {
         }
     }
 
-    // The band around an envelope: this one, where no threshold was crossed. Past the last threshold
-    // doubling goes on, and nothing more is counted.
+    // The band around an envelope: this one, where no threshold was crossed, else one that is searched
+    // for. Above the last threshold doubling goes on, and its bands have no more thresholds below them.
     pub fn around(self, q: u64) -> Band
         requires { ⌜ Searchable workedOut thresholds q self ⌝ }
         ensures { λ r. ⌜ Around workedOut thresholds q r ⌝ }
     {
-        if self.low <= q {
-            if q < self.high {
+        if q < self.high {
+            if self.low <= q {
                 return self;
             }
         }
@@ -51,8 +51,8 @@ impl Band {
         Band::up_to(j, c)
     }
 
-    // Where the search begins: upwards at this band, downwards at the lowest again, since each threshold
-    // comes from the one before it.
+    // Where the search begins: upwards at this band, downwards at the lowest again, since a threshold is
+    // worked out from the one below it.
     fn begin(self, q: u64) -> Band
         requires { ⌜ IsBand workedOut thresholds self ⌝ }
         ensures { λ r. ⌜ Begun workedOut thresholds q r ⌝ }
@@ -60,7 +60,7 @@ impl Band {
         if q < self.low { Band::lowest() } else { self }
     }
 
-    // The band up to c, the threshold at place j.
+    // The band up to c, which has place j.
     fn up_to(j: usize, c: u64) -> Band
         ensures { λ r. ⌜ UpTo workedOut thresholds j c r ⌝ }
     {
@@ -72,7 +72,7 @@ impl Band {
     }
 }
 
-// The threshold after c.
+// The next threshold.
 fn next_threshold(c: u64) -> u64
     requires { ⌜ c ≤ 2 ^ 40 ⌝ }
     ensures { λ r. ⌜ r ≡ nextThreshold c ⌝ }
@@ -80,13 +80,15 @@ fn next_threshold(c: u64) -> u64
     2 * c
 }
 
-// The threshold before c, which has place j; 0 before the first.
+// The threshold before c, which has place j; 0 where c is the first. It is not carried through the search:
+// c is twice it.
 fn one_before(j: usize, c: u64) -> u64
     ensures { λ r. ⌜ Before workedOut thresholds j c r ⌝ }
 {
     if j == 0 { 0 } else { c / 2 }
 }
 
+// So many thresholds, and never more than there are.
 fn at_most_all(x: usize) -> usize
     ensures { λ r. ⌜ r ≡ min x thresholds ⌝ }
 {

@@ -1,10 +1,10 @@
--- What the search for a band promises. c are all that doubling leads to; the first k of them are thresholds.
+-- What the search for a band promises. c_0, c_1 and so on are numbers that rise without end; the first k of them are thresholds.
 use mathlib.Core.Logic.{_⊎_}
 use mathlib.Core.Path.{_≡_}
 use Prim.Native.Nat.{ℕ, zero, suc, _^_, _≤_, _<_, min}
 use Rattle.sample.specs.declared.band.Band.{Band}
 
--- no threshold lies above low and below high
+-- no c_j lies above low and below high
 pub record Clear (c : ℕ → ℕ) (low high : ℕ) : Type 0 where
   pub side : (j : ℕ) → (c j ≤ low) ⊎ (high ≤ c j)
 
@@ -37,14 +37,15 @@ pub record Around (c : ℕ → ℕ) (k q : ℕ) (b : Band) : Type 0 where
   pub from : b .low ≤ q
   pub to : q < b .high
 
--- v is c_p, and j is p, as far as thresholds are counted
+-- v is c_p, and j is p, where p is the place of a threshold
 pub record Placed (c : ℕ → ℕ) (k p j v : ℕ) : Type 0 where
   pub is : v ≡ c p
-  pub counted : min j k ≡ min p k
+  pub place : min j k ≡ min p k
 
--- of v, wherever it is placed: r is where the band up to it begins, and r is that band
+-- the band up to v begins at r
 abbrev pub Before : (c : ℕ → ℕ) (k j v r : ℕ) → Type 0
 Before c k j v r = (p : ℕ) → Placed c k p j v → r ≡ lowEnd c p
 
+-- the band up to v is r
 abbrev pub UpTo : (c : ℕ → ℕ) (k j v : ℕ) → Band → Type 0
 UpTo c k j v r = (p : ℕ) → Placed c k p j v → r ≡ bandAt c k p

@@ -12,11 +12,11 @@ use Rattle.sample.proofs.band.one_before.Tie as tie
 none-before : (j v : ℕ) → j ≡ 0 → Before workedOut thresholds j v 0
 unfolding lowEnd
 none-before j v z zero p = refl
-none-before j v z (suc i) p = absurd (omega (arith, p .counted))
+none-before j v z (suc i) p = absurd (omega (arith, p .place))
 
 half-before : (j v : ℕ) → (j ≡ 0 → ⊥) → Before workedOut thresholds j v (v / 2)
 unfolding lowEnd
-half-before j v z zero p = absurd (z (omega (arith, p .counted)))
+half-before j v z zero p = absurd (z (omega (arith, p .place)))
 half-before j v z (suc i) p = ap (λ (x : ℕ). x / 2) (p .is) ∙ half i
 
 returns : tie.Need-returns

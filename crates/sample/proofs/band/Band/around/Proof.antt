@@ -47,16 +47,16 @@ next-threshold-requires : tie.Need-next-threshold-requires Inv-loop μ-loop
 next-threshold-requires c κs = omega (arith, c .loop-test .taken, c .before .before .before .before .before .pre .q-max)
 
 add-j : tie.Need-add-j Inv-loop μ-loop
-add-j c = let l = c .before in record { fits = few _ _ _ (l .before .loop .inv) (l .loop-test .taken) (start-at c .pre .q-max) }
+add-j c = let l = c .before in record { fits = few _ _ _ (l .before .loop .inv) (omega (arith, l .loop-test .taken)) (start-at c .pre .q-max) }
 
 loop-less : tie.Need-loop-less Inv-loop μ-loop
-loop-less c = let l = c .before in falls _ _ _ (l .before .loop .inv) (l .loop-test .taken) (start-at c .pre .q-max) _ (c .next-threshold .ensures)
+loop-less c = let l = c .before in falls _ _ _ (l .before .loop .inv) (omega (arith, l .loop-test .taken)) (start-at c .pre .q-max) _ (c .next-threshold .ensures)
 
 loop-again : tie.Need-loop-again Inv-loop μ-loop
-loop-again c = let l = c .before in turned _ _ _ (l .before .loop .inv) (l .loop-test .taken) (start-at c .pre .q-max) _ (c .next-threshold .ensures)
+loop-again c = let l = c .before in turned _ _ _ (l .before .loop .inv) (omega (arith, l .loop-test .taken)) (start-at c .pre .q-max) _ (c .next-threshold .ensures)
 
 returns-2 : tie.Need-returns-2 Inv-loop μ-loop
-returns-2 c = let l = c .before in found workedOut thresholds _ _ _ _ (l .before .loop .inv) (l .loop-test .left) (c .up-to .ensures)
+returns-2 c = let l = c .before in found workedOut thresholds _ _ _ _ (l .before .loop .inv) (omega (arith, l .loop-test .left)) (c .up-to .ensures)
 
 pub around-spec : {M : Type 1} → statement M
 around-spec =

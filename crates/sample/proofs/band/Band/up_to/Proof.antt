@@ -14,7 +14,7 @@ unfolding bandAt
 made c k j v low below b e p q =
     ap (λ (x : ℕ). record { low = x; high = v; below = below }) (b p q)
     ∙ ap (λ (x : ℕ). record { low = lowEnd c p; high = x; below = below }) (q .is)
-    ∙ ap (λ (x : ℕ). record { low = lowEnd c p; high = c p; below = x }) (e ∙ q .counted)
+    ∙ ap (λ (x : ℕ). record { low = lowEnd c p; high = c p; below = x }) (e ∙ q .place)
 
 returns : tie.Need-returns
 returns c = made workedOut thresholds _ _ _ _ (c .before .one-before .ensures) (c .at-most-all .ensures)
