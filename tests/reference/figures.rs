@@ -1,5 +1,6 @@
 //! The worked figures, and a few further ones; wrong answers that the check of demand 3 refuses.
 
+mod crossings;
 mod offsets;
 
 use crate::block;
@@ -26,6 +27,7 @@ pub fn figures() -> bool {
     percentage_never_falls(&mut tally);
     percentage_is_near(&mut tally);
     offsets::offsets(&mut tally);
+    crossings::crossings(&mut tally);
     doctored(&mut tally);
     tally.finish()
 }

@@ -8,6 +8,7 @@ pub mod random;
 mod recording;
 mod script;
 pub mod signals;
+mod thresholds;
 
 use crate::records::{write_bytes, Record};
 use random::Random;

@@ -10,6 +10,7 @@ mod big;
 mod block;
 mod clause11;
 mod compare;
+mod crossed;
 mod doctored;
 mod exact;
 mod figures;
@@ -142,6 +143,7 @@ fn run(arguments: &[&str]) -> io::Result<bool> {
         ),
         ["samples"] => lines(replay::accepted_samples(&input()?), BAD_RECORD),
         ["largest"] => lines(replay::largest_size(&input()?), BAD_RECORD),
+        ["crossed"] => lines(crossed::crossed(&input()?), BAD_RECORD),
         ["agrees", script, printed] => {
             let script = std::fs::read(script)?;
             counted(compare::agrees(&script, &std::fs::read_to_string(printed)?))
@@ -153,7 +155,7 @@ fn run(arguments: &[&str]) -> io::Result<bool> {
         ["speech", arguments @ ..] => speech(arguments),
         _ => error(
             "replay | report | host | generate KIND SEED COUNT | blocks CODE | figures | exact | \
-             counts | samples | largest | agrees SCRIPT OUTPUT | clause11 script | \
+             counts | samples | largest | crossed | agrees SCRIPT OUTPUT | clause11 script | \
              clause11 check OUTPUT | speech ...",
         ),
     }

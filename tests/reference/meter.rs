@@ -177,7 +177,7 @@ impl Meter {
 
     /// One sample: s takes it as it is, all else its size (the customer's scope, "One sample"; the
     /// customer's request L2).
-    fn sample(&mut self, rate: &Rate, x: i16) {
+    pub fn sample(&mut self, rate: &Rate, x: i16) {
         let K = u128::from(rate.K);
         let size = u128::from(self.size(x));
         self.n += 1;

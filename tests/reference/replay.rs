@@ -97,26 +97,35 @@ pub fn replay(bytes: &[u8]) -> String {
     lines
 }
 
-/// The sizes of the samples that the accepted calls took; None where the script has a bad record.
+/// The calls that took samples: the meter before each and its samples; None where the script has a
+/// bad record.
 ///
 /// n grows by a call's samples just where the call is accepted (the customer's scope, "One sample").
-fn sizes_taken(script: &[u8]) -> Option<Vec<u16>> {
+pub fn taken(script: &[u8]) -> Option<Vec<(Meter, Vec<i16>)>> {
     let (records, bad) = read(script);
     let mut player = Player::new();
-    let mut sizes = Vec::new();
+    let mut calls = Vec::new();
     for record in &records {
-        let n = player.meter.n;
+        let before = player.meter.clone();
         player.answer(record);
         let samples = match record {
             Record::Chunk(samples) => samples.clone(),
             Record::Block(bytes) => block::samples(bytes),
             _ => continue,
         };
-        if player.meter.n > n {
-            sizes.extend(samples.iter().map(|&x| player.meter.size(x)));
+        if player.meter.n > before.n {
+            calls.push((before, samples));
         }
     }
-    (!bad).then_some(sizes)
+    (!bad).then_some(calls)
+}
+
+/// The sizes of the samples that the accepted calls took; None where the script has a bad record.
+fn sizes_taken(script: &[u8]) -> Option<Vec<u16>> {
+    let sizes = |(meter, samples): &(Meter, Vec<i16>)| -> Vec<u16> {
+        samples.iter().map(|&x| meter.size(x)).collect()
+    };
+    Some(taken(script)?.iter().flat_map(sizes).collect())
 }
 
 /// A line with the total length of the accepted calls; None where the script has a bad record.

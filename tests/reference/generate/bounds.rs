@@ -7,7 +7,7 @@ use crate::meter::{Meter, M, MOST_SAMPLES};
 use crate::rate::rate;
 
 /// The bound of P and Q.
-const MOST_ENVELOPE: u64 = 1 << 40;
+pub const MOST_ENVELOPE: u64 = 1 << 40;
 
 /// The bound of sq at n samples.
 pub fn most_squares(n: u64) -> u128 {

@@ -4,12 +4,15 @@ use super::bounds::{bounds, most_squares, of_factor, plausible, tuned};
 use super::random::Random;
 use super::script::Script;
 use super::signals::{around, furthest, noise, placed, signal};
+use super::thresholds::{approach, targets};
+use crate::block;
 use crate::meter::{Meter, MOST_IN_CHUNK, MOST_SAMPLES};
 use crate::percent::{difference, WHOLE};
 use crate::rate::rate;
 use crate::records::Record;
 
-/// A script of about so many records: the bounds of refusal 2, then calls of all kinds.
+/// A script of about so many records: the bounds of refusal 2, then calls of all kinds; and at the
+/// end each threshold met exactly and just missed.
 pub fn calls(seed: u64, count: u64) -> Vec<u8> {
     let mut script = Script::new(seed);
     let code = 1 + (seed % 3) as u8;
@@ -20,6 +23,9 @@ pub fn calls(seed: u64, count: u64) -> Vec<u8> {
     }
     while script.records < count {
         step(&mut script);
+    }
+    for target in targets() {
+        brought(&mut script, target);
     }
     script.bytes
 }
@@ -164,6 +170,22 @@ fn pair(script: &mut Script) {
     }
     script.add(Record::Show);
     script.add(Record::Report);
+}
+
+/// A meter, and the samples that bring its envelope to a target, with none or a few after them.
+fn brought(script: &mut Script, target: u64) {
+    let code = named(script);
+    let (meter, mut call) = approach(&mut script.random, code, target);
+    script.add(Record::Load(meter));
+    let more = script.random.pick(&[0, 0, 1, 3]);
+    call.extend(samples(script, more));
+    let record = if script.random.once_in(2) {
+        Record::Chunk(call)
+    } else {
+        Record::Block(block::make(code, script.meter().n, &call))
+    };
+    script.add(record);
+    script.add(Record::Show);
 }
 
 /// A meter whose sq is just below 2^64, and samples that bring it past, whatever the offset.
