@@ -17,13 +17,20 @@ struct indices {
     size_t since[THRESHOLDS];
 };
 
-static struct band around(uint64_t q)
+static const struct band lowest = {0, (uint64_t)1 << UNIT_BITS, 0};
+
+/* The band around an envelope. Thresholds are doubled out: upwards from the band that it was in, downwards
+ * from the first again. */
+static struct band around(struct band was, uint64_t q)
 {
-    if (q < threshold(0))
-        return (struct band){0, threshold(0), 0};
-    int place = 63 - __builtin_clzll(q);
-    int below = place - UNIT_BITS + 1;
-    return (struct band){(uint64_t)1 << place, (uint64_t)2 << place, below < THRESHOLDS ? below : THRESHOLDS};
+    if (was.low <= q && q < was.high)
+        return was;
+    struct band from = q < was.low ? lowest : was;
+    uint64_t c = from.high;
+    int j = from.below;
+    for (; c <= q; c *= 2)
+        j++;
+    return (struct band){j == 0 ? 0 : c / 2, c, j < THRESHOLDS ? j : THRESHOLDS};
 }
 
 /* Brings the counters from one place up to another up to date at an index. The envelope was at or
@@ -83,11 +90,11 @@ void meter_take(struct meter *m, const int16_t *samples, size_t count)
     struct indices c = {{0}};
     struct moving v = {m->s, 0, m->p, m->q};
     step(&v, m->rate.k, m->offset, samples[0]);
-    struct band band = around(v.q);
+    struct band band = around(lowest, v.q);
     size_t at = 0;
     while (at < count) {
         at = step_inside(&v, m->rate.k, m->offset, band, samples, at + 1, count);
-        struct band next = around(v.q);
+        struct band next = around(band, v.q);
         if (band.below < next.below)
             settle(m, &c, band.below, next.below, 0, at);
         else

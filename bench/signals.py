@@ -64,14 +64,15 @@ def silence(_chance, _speed):
 
 
 def worst(_chance, _speed):
-    """Twice the threshold, nothing, and so on: the envelope crosses the threshold at each sample.
+    """Twice the highest threshold, nothing, and so on: the envelope crosses that threshold at each sample.
 
     The mean size of the samples is the threshold, so both averages settle around it. With
     w = K / 2^20, an average passes w / (2 - w) of a swing that turns at each sample, so the envelope
-    ends up swinging by (w / (2 - w))^2 of the threshold to either side. At 2^13 intervals that is
-    more than a hundred times what rounding down takes from it, whatever the rate.
+    ends up swinging by (w / (2 - w))^2 of the threshold to either side. At 2^14 intervals that is
+    more than three hundred times what rounding down takes from it, whatever the rate. No threshold costs
+    more to cross: those below the envelope are worked out anew each time that it falls.
     """
-    return [2 * 2**13, 0] * (SAMPLES // 2)
+    return [-2 * 2**14, 0] * (SAMPLES // 2)
 
 
 def extremes(chance, _speed):
