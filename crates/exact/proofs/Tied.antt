@@ -11,7 +11,6 @@ use borrow.Author.Tests.{leb-true, le-leb}
 use lib.Dec.{leb, lit<, lit≤}
 use lib.IntN.{ℤ, natAbs}
 use lib.ListN.{getD, length}
-use lib.Pow.{pow-mono}
 use mir.Syntax.{w16}
 use mir.Val.{SFits}
 use Rattle.level.specs.declared.Samples.{Samples}
@@ -26,6 +25,7 @@ use Rattle.sample.proofs.Activity.{Under, under-refl, under-step, counted-le, h
 use Rattle.sample.proofs.Envelope.{smooth-le}
 use Rattle.sample.proofs.Places.{each-at}
 use Rattle.sample.proofs.Signs.{small, size-small}
+use Rattle.sample.proofs.Thresholds.{thresholds-rise}
 use Rattle.signed.proofs.Sizes.{abs-sum}
 use Rattle.exact.specs.Exact.{E, startAt, distance, reaches, countNext, hangoverNext, takeOne, takeAll}
 use Rattle.rate.specs.Rates.{Ceiling}
@@ -104,10 +104,6 @@ both-at f g i j k l u =
 more : (s n y : ℕ) → s ≤ n * 2 ^ 32 → y ≤ 2 ^ 16 * 2 ^ 16 → s + y ≤ (n + 1) * 2 ^ 32
 more s n y h k = omega arith
 
-rises : (j : ℕ) → threshold j ≤ threshold (j + 1)
-unfolding threshold
-rises j = pow-mono {i = j + 24} {j = j + 1 + 24} (omega arith)
-
 power-pos : (i : ℕ) → 0 < (2 ^ 20) ^ i
 power-pos i = one-le-pow i (2 ^ 20) (lit≤ tt)
 
@@ -155,7 +151,7 @@ module _ (D : ℕ) (m : State) (e : E) (x : ℤ) (k0 : 0 < e .K) (kG : e .K ≤ 
       le-leb _ _ (then-rounded (2 ^ 20) (e .K) 2 ((2 ^ 20) ^ (e .y + 1 + 1)) Q qn D (threshold j) wide q-near (leb-true _ _ h))
 
   on-lower : (j : ℕ) → leb (threshold (j + 1)) Q ≡ true → leb (threshold j) Q ≡ true
-  on-lower j h = le-leb _ _ (le-trans (rises j) (leb-true _ _ h))
+  on-lower j h = le-leb _ _ (le-trans (thresholds-rise j (j + 1) (omega arith)) (leb-true _ _ h))
 
   counter : (j : ℕ) → j < thresholds
       → Between D j (m .sums .n .0 + 1) (counted (e .I) (leb (threshold j) Q) (activity (m .a) j) (getD (m .h) j 0)) (hung (e .I) (leb (threshold j) Q) (getD (m .h) j 0)) (takeOne e x)

@@ -19,9 +19,12 @@ unfolding workedOut threshold
 worked-out zero = refl
 worked-out (suc j) = ap nextThreshold (worked-out j) ∙ twice j
 
-pub rising : (i j : ℕ) → i ≤ j → workedOut i ≤ workedOut j
+pub thresholds-rise : (i j : ℕ) → i ≤ j → threshold i ≤ threshold j
 unfolding threshold
-rising i j l = subst₂ (λ (x y : ℕ). x ≤ y) (sym (worked-out i)) (sym (worked-out j)) (pow-mono {i = i + 24} {j = j + 24} (omega arith))
+thresholds-rise i j l = pow-mono (omega arith)
+
+pub rising : (i j : ℕ) → i ≤ j → workedOut i ≤ workedOut j
+rising i j l = subst₂ (λ (x y : ℕ). x ≤ y) (sym (worked-out i)) (sym (worked-out j)) (thresholds-rise i j l)
 
 pub half : (j : ℕ) → workedOut (suc j) / 2 ≡ workedOut j
 unfolding workedOut
