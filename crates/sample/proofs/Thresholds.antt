@@ -1,6 +1,6 @@
 -- The thresholds worked out while counting are the c_j, since each c_j is twice the one before. They rise, and none is below its place.
 use mathlib.Core.Path.{_≡_, refl, ap, _∙_, subst₂, sym}
-use Prim.Native.Nat.{ℕ, zero, suc, _+_, _*_, _/_, _^_, _≤_, _<_}
+use Prim.Native.Nat.{ℕ, zero, suc, _/_, _^_, _≤_, _<_}
 use native.Mathlib.Nat.{two-pow-succ}
 use native.Mathlib.Omega.{arith}
 use lib.Pow.{pow-mono}

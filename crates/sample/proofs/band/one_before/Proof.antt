@@ -4,7 +4,7 @@ use Prim.Native.Nat.{ℕ, zero, suc, _/_}
 use native.Mathlib.Omega.{arith}
 use Rattle.level.specs.Types.{thresholds}
 use Rattle.sample.specs.Envelope.{workedOut}
-use Rattle.sample.specs.Inner.Bands.{lowEnd, Before, Placed}
+use Rattle.sample.specs.Inner.Bands.{lowEnd, Before}
 use Rattle.sample.proofs.Thresholds.{half}
 use Rattle.sample.proofs.band.one_before.Statement.{statement}
 use Rattle.sample.proofs.band.one_before.Tie as tie

@@ -3,7 +3,6 @@ use borrow.Author.Needs.{needs}
 use mathlib.Core.Path.{_≡_, ap, _∙_}
 use Prim.Native.Nat.{ℕ, min}
 use Rattle.level.specs.Types.{thresholds}
-use Rattle.sample.specs.declared.band.Band.{Band}
 use Rattle.sample.specs.Envelope.{workedOut}
 use Rattle.sample.specs.Inner.Bands.{lowEnd, bandAt, Before, UpTo}
 use Rattle.sample.proofs.band.Band.up_to.Statement.{statement}
