@@ -19,8 +19,8 @@ struct indices {
 
 static const struct band lowest = {0, (uint64_t)1 << UNIT_BITS, 0};
 
-/* The band around an envelope. Thresholds are doubled out: upwards from the band that it was in, downwards
- * from the first again. */
+/* The band around an envelope. Thresholds are doubled out: upwards from the band that it was in,
+ * downwards from the first again. */
 static struct band around(struct band was, uint64_t q)
 {
     if (was.low <= q && q < was.high)

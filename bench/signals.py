@@ -64,13 +64,13 @@ def silence(_chance, _speed):
 
 
 def worst(_chance, _speed):
-    """Twice the highest threshold, nothing, and so on: the envelope crosses that threshold at each sample.
+    """Twice the highest threshold, nothing, and so on: the envelope crosses it at each sample.
 
     The mean size of the samples is the threshold, so both averages settle around it. With
     w = K / 2^20, an average passes w / (2 - w) of a swing that turns at each sample, so the envelope
     ends up swinging by (w / (2 - w))^2 of the threshold to either side. At 2^14 intervals that is
-    more than three hundred times what rounding down takes from it, whatever the rate. No threshold costs
-    more to cross: those below the envelope are worked out anew each time that it falls.
+    more than three hundred times what rounding down takes from it, whatever the rate. No threshold
+    costs more to fall below: all those under it are worked out anew.
     """
     return [-2 * 2**14, 0] * (SAMPLES // 2)
 

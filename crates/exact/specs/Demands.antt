@@ -112,7 +112,8 @@ pub record Demand2 : Type 0 where
       → meterAfter c calls ≡ record { setting = c; state = stateAfter (countingOf c) (freshState (iOf c)) (takenFrom c calls) }
   -- and, as his request L2 has it, "With o = 0 every measurement from a fresh meter is today's"
   pub no-offset : NoOffset
-  -- and of the thresholds that these counts are of, as his request L3 has it, "that the j-th so worked out is c_j, for each j from 0 to 14"
+  -- and of the thresholds that these counts are of, as his request L3 has it, "that the j-th so worked out is c_j, for each j from 0 to 14". That the
+  -- code gets them so is the contracts of `Band::lowest` and `next_threshold` in `sample`; that "no table in the library shall list them" is tested
   pub worked-out : (j : ℕ) → j < thresholds → workedOut j ≡ threshold j
   -- "crossing, levels and factor": a report on any meter that 2 lets pass is the one of METHOD.md; F is never above 0
   pub reported : (m : Meter) → impossible m ≡ false → Answered m (reportCall m .number) (reportCall m .report)

@@ -47,7 +47,7 @@ module _ (c : ℕ → ℕ) (rise : Rising c) where
 
 -- ---- the search
 
--- v has been reached: all before it is at or below q
+-- the search has come to v: what is before it is at or below q
 pub record Reaching (c : ℕ → ℕ) (k q j v : ℕ) : Type 0 where
   pub place : ℕ
   pub placed : Placed c k place j v
