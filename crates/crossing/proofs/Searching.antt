@@ -1,69 +1,90 @@
--- The search for the lowest place at which a test holds: what is found lies in range and holds the test, which no lower place there does, and where
--- nothing is found no place does.
-use mathlib.Core.Bool.{Bool, true, false, cond}
-use mathlib.Core.Logic.{⊎-elim}
+-- The search for the highest place at which a test holds: what is found lies in range and holds the test, which no higher place there does, and
+-- where nothing is found no place does. So there is a highest such place exactly where there is a lowest.
+use mathlib.Core.Bool.{Bool, true, false, cond, true≢false}
+use mathlib.Core.Logic.{_↔_, ⊎-elim}
 use mathlib.Core.Option.{Option, none, some}
 use mathlib.Core.Path.{_≡_, refl, sym, ap, _∙_, subst}
-use Prim.Native.Nat.{ℕ, zero, suc, _+_, _≤_, _<_}
+use Prim.Native.Nat.{ℕ, zero, suc, _≤_, _<_}
 use native.Mathlib.Nat.{eq-or-lt-of-le}
 use native.Mathlib.Omega.{arith}
-use Rattle.crossing.specs.Crossing.{lowestFrom}
+use Rattle.crossing.specs.Crossing.{highestBelow}
 
--- the lowest of j, j + 1, .., k of them, at which f holds, is p
-pub record Lowest (f : ℕ → Bool) (j k p : ℕ) : Type 0 where
-  pub from : j ≤ p
-  pub to : p < j + k
+-- the highest place below k at which f holds is p
+pub record Highest (f : ℕ → Bool) (k p : ℕ) : Type 0 where
+  pub place : p < k
   pub holds : f p ≡ true
-  pub none-lower : (l : ℕ) → j ≤ l → l < p → f l ≡ false
+  pub none-higher : (l : ℕ) → p < l → l < k → f l ≡ false
 
 -- what a search found: that, or that it holds at none of them
-Search : (f : ℕ → Bool) (j k : ℕ) → Option ℕ → Type 0
-Search f j k none = (p : ℕ) → j ≤ p → p < j + k → f p ≡ false
-Search f j k (some p) = Lowest f j k p
+Search : (f : ℕ → Bool) (k : ℕ) → Option ℕ → Type 0
+Search f k none = (p : ℕ) → p < k → f p ≡ false
+Search f k (some p) = Highest f k p
 
--- a place is j, or one from j + 1 on
-from-next : (f : ℕ → Bool) (j l : ℕ) → j ≤ l → f j ≡ false → (j + 1 ≤ l → f l ≡ false) → f l ≡ false
-from-next f j l h e rest = ⊎-elim (λ s. ap f (sym s) ∙ e) (λ s. rest (omega arith)) (eq-or-lt-of-le h)
+-- a place up to k is k, or one below it
+up-to : (f : ℕ → Bool) (k l : ℕ) → l < suc k → f k ≡ false → (l < k → f l ≡ false) → f l ≡ false
+up-to f k l h e rest = let u : l ≤ k = omega arith in ⊎-elim (λ s. ap f s ∙ e) rest (eq-or-lt-of-le u)
 
-later : (f : ℕ → Bool) (j k : ℕ) (o : Option ℕ) → f j ≡ false → Search f (j + 1) k o → Search f j (suc k) o
+later : (f : ℕ → Bool) (k : ℕ) (o : Option ℕ) → f k ≡ false → Search f k o → Search f (suc k) o
 unfolding Search
-later f j k none e h = λ p m s. from-next f j p m e (λ n. h p n (omega arith))
-later f j k (some p) e h =
+later f k none e h = λ p u. up-to f k p u e (h p)
+later f k (some p) e h =
     record {
-      from = omega (arith, h .from);
-      to = omega (arith, h .to);
+      place = omega (arith, h .place);
       holds = h .holds;
-      none-lower = λ l m s. from-next f j l m e (λ n. h .none-lower l n s);
+      none-higher = λ l m u. up-to f k l u e (h .none-higher l m);
     }
 
-search-at : (f : ℕ → Bool) (j k : ℕ) → Search f j k (lowestFrom f j k)
-unfolding Search lowestFrom
-search-at f j zero = λ p l h. absurd (omega arith)
-search-at f j (suc k) = go (f j) refl (search-at f (j + 1) k)
+search-below : (f : ℕ → Bool) (k : ℕ) → Search f k (highestBelow f k)
+unfolding Search highestBelow
+search-below f zero = λ p u. absurd (omega arith)
+search-below f (suc k) = go (f k) refl (search-below f k)
   where
-    go : (t : Bool) → f j ≡ t → Search f (j + 1) k (lowestFrom f (j + 1) k) → Search f j (suc k) (cond t (some j) (lowestFrom f (j + 1) k))
-    go true e h = record { from = omega arith; to = omega arith; holds = e; none-lower = λ l m s. absurd (omega arith) }
-    go false e h = later f j k (lowestFrom f (j + 1) k) e h
+    go : (t : Bool) → f k ≡ t → Search f k (highestBelow f k) → Search f (suc k) (cond t (some k) (highestBelow f k))
+    go true e h = record { place = omega arith; holds = e; none-higher = λ l m u. absurd (omega arith) }
+    go false e h = later f k (highestBelow f k) e h
 
-pub found : (f : ℕ → Bool) (j k p : ℕ) → lowestFrom f j k ≡ some p → Lowest f j k p
+pub found : (f : ℕ → Bool) (k p : ℕ) → highestBelow f k ≡ some p → Highest f k p
 unfolding Search
-found f j k p e = subst (Search f j k) e (search-at f j k)
+found f k p e = subst (Search f k) e (search-below f k)
 
-pub not-found : (f : ℕ → Bool) (j k : ℕ) → lowestFrom f j k ≡ none → (p : ℕ) → j ≤ p → p < j + k → f p ≡ false
+pub not-found : (f : ℕ → Bool) (k : ℕ) → highestBelow f k ≡ none → (p : ℕ) → p < k → f p ≡ false
 unfolding Search
-not-found f j k e = subst (Search f j k) e (search-at f j k)
+not-found f k e = subst (Search f k) e (search-below f k)
 
 -- ---- one place at a time
 
-pub here : (f : ℕ → Bool) (j k : ℕ) → f j ≡ true → lowestFrom f j (suc k) ≡ some j
-unfolding lowestFrom
-here f j k e = simp e
+pub here : (f : ℕ → Bool) (k : ℕ) → f k ≡ true → highestBelow f (suc k) ≡ some k
+unfolding highestBelow
+here f k e = simp e
 
-pub past : (f : ℕ → Bool) (j k : ℕ) → f j ≡ false → lowestFrom f j (suc k) ≡ lowestFrom f (j + 1) k
-unfolding lowestFrom
-past f j k e = simp e
+pub past : (f : ℕ → Bool) (k : ℕ) → f k ≡ false → highestBelow f (suc k) ≡ highestBelow f k
+unfolding highestBelow
+past f k e = simp e
 
-pub nowhere : (f : ℕ → Bool) (j k : ℕ) → ((p : ℕ) → j ≤ p → p < j + k → f p ≡ false) → lowestFrom f j k ≡ none
-unfolding lowestFrom
-nowhere f j zero h = refl
-nowhere f j (suc k) h = past f j k (h j (omega arith) (omega arith)) ∙ nowhere f (j + 1) k (λ p l u. h p (omega arith) (omega arith))
+-- ---- a highest exactly where a lowest
+
+-- the lowest place below k at which f holds is p
+pub record Lowest (f : ℕ → Bool) (k p : ℕ) : Type 0 where
+  pub place : p < k
+  pub holds : f p ≡ true
+  pub none-lower : (l : ℕ) → l < p → f l ≡ false
+
+-- from any place at which f holds the search finds the highest
+highest : (f : ℕ → Bool) (k p : ℕ) → p < k → f p ≡ true → (q : ℕ) × Highest f k q
+highest f k p l h = go (highestBelow f k) refl
+  where
+    go : (o : Option ℕ) → highestBelow f k ≡ o → (q : ℕ) × Highest f k q
+    go none e = absurd (true≢false (sym h ∙ not-found f k e p l))
+    go (some q) e = (q, found f k q e)
+
+-- and, repeated below what it finds, the lowest; m bounds how often
+lowest : (f : ℕ → Bool) (k m p : ℕ) → p < m → p < k → f p ≡ true → (q : ℕ) × Lowest f k q
+lowest f k zero p b l h = absurd (omega arith)
+lowest f k (suc m) p b l h = go (λ q s. lowest f k m q (omega (arith, s .place)) (omega (arith, s .place)) (s .holds)) (highestBelow f p) refl
+  where
+    go : ((q : ℕ) → Highest f p q → (r : ℕ) × Lowest f k r) → (o : Option ℕ) → highestBelow f p ≡ o → (r : ℕ) × Lowest f k r
+    go on none e = (p, record { place = l; holds = h; none-lower = not-found f p e })
+    go on (some q) e = on q (found f p q e)
+
+pub highest-lowest : (f : ℕ → Bool) (k : ℕ) → ((p : ℕ) × Highest f k p) ↔ ((p : ℕ) × Lowest f k p)
+highest-lowest f k = (λ s. lowest f k k (s .0) (s .1 .place) (s .1 .place) (s .1 .holds), λ s. highest f k (s .0) (s .1 .place) (s .1 .holds))

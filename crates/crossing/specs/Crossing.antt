@@ -2,7 +2,7 @@
 use mathlib.Core.Bool.{Bool, false, cond, _&&_, _||_}
 use mathlib.Core.List.{List}
 use mathlib.Core.Option.{Option, none, some}
-use Prim.Native.Nat.{ℕ, zero, suc, _+_, _-_}
+use Prim.Native.Nat.{ℕ, zero, suc, _-_}
 use lib.Dec.{eqb, leb, ltb}
 use lib.IntN.{ℤ, pos, negsuc, natAbs, _+ℤ_, _-ℤ_, _*ℤ_}
 use lib.Signed.{ltZ, shrZ}
@@ -14,20 +14,20 @@ abbrev pub isZero : ℤ → Bool
 isZero (pos n) = eqb n 0
 isZero (negsuc n) = false
 
--- whether there is a crossing at j: the count is above 0, and d is 0 there, or it turns from above 0 to below it from the place before to this one
+-- whether there is a crossing at j: a_j is above 0, and either d_j is 0, or j is at least 1, d_(j−1) is above 0 and d_j is below 0
 unfoldable pub isCrossing : (M S : ℤ) (a : List Samples) (j : ℕ) → Bool
 isCrossing M S a j =
     let d = excess M S a in
     ltb 0 (activity a j) && (isZero (d j) || (leb 1 j && ltZ (pos 0) (d (j - 1)) && ltZ (d j) (pos 0)))
 
--- the lowest of j, j + 1, .., k of them, at which f holds
-unfoldable pub lowestFrom : (ℕ → Bool) → (j k : ℕ) → Option ℕ
-lowestFrom f j zero = none
-lowestFrom f j (suc k) = cond (f j) (some j) (lowestFrom f (j + 1) k)
+-- the highest place below k at which f holds
+unfoldable pub highestBelow : (ℕ → Bool) → (k : ℕ) → Option ℕ
+highestBelow f zero = none
+highestBelow f (suc k) = cond (f k) (some k) (highestBelow f k)
 
--- the lowest crossing
+-- the highest crossing
 unfoldable pub crossing : (M S : ℤ) (a : List Samples) → Option ℕ
-crossing M S a = lowestFrom (isCrossing M S a) 0 thresholds
+crossing M S a = highestBelow (isCrossing M S a) thresholds
 
 -- a crossing's lower and upper threshold
 unfoldable pub lowerOf : (M S : ℤ) (a : List Samples) (j : ℕ) → ℕ

@@ -41,7 +41,7 @@ noLevels =
       upper = 0;
     }
 
--- the crossing of a measurement, and d_0
+-- the highest crossing of a measurement, and d_0
 unfoldable pub crossingIn : (M : ℤ) (sq : ℕ) (a : List Samples) → Option ℕ
 crossingIn M sq a = crossing M (pos (lev sq)) a
 
@@ -53,6 +53,7 @@ pub record Searched : Type 0 where
   pub number : ℕ
   pub levels : Levels
 
+-- at what the search for a crossing found: its levels; or none, by the sign of d_0
 unfoldable pub levelsFor : (M : ℤ) (n sq : ℕ) (a : List Samples) → Option ℕ → Searched
 levelsFor M n sq a none = record { number = cond (ltZ (firstExcess M sq a) (pos 0)) 15 16; levels = noLevels }
 levelsFor M n sq a (some j) = record { number = 0; levels = levelsAt M n sq a j }

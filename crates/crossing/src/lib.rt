@@ -1,13 +1,13 @@
 // The levels of a report (METHOD.md, "The report"): the crossing, and the active level at it.
 mod interpolation;
-mod lowest;
+mod search;
 mod steps;
 
 ghost use mathlib.Core.Path.{_≡_};
 ghost use Rattle.level.specs.Types.{twoWords};
 ghost use Rattle.crossing.specs.Inner.FindLevels.{Measured};
 ghost use Rattle.crossing.specs.Searched.{said, searched};
-use crate::lowest::Place;
+use crate::search::Place;
 use level::Samples;
 use level::Squares;
 use level::Steps;
@@ -38,7 +38,7 @@ pub fn find_levels(n: Samples, sq: Squares, a: [Samples; THRESHOLDS], margin: St
     ensures { λ r. ⌜ said r ≡ searched (margin .0) (n .0) (twoWords sq) a ⌝ }
 {
     let power = sq.level().steps();
-    match lowest::crossing(power, a, margin) {
+    match search::crossing(power, a, margin) {
         Place::At(j) => {
             let level = steps::over(power, n);
             let at = interpolation::at_crossing(power, a, j, margin);

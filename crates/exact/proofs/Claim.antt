@@ -6,6 +6,7 @@ use Rattle.meter.specs.Opened.{Fresh}
 use Rattle.meter.proofs.Laws.{open-given, chunk-given, block-given, report-given, refused-chunk, refused-block, report-meter, refused-report, refused-open, zeros-chunk, zeros-block, zeros-report, opened, fresh-fields, factor-never-above, percent-never-smaller, block-taken, block-samples, chunk-samples, empty-chunk}
 use Rattle.meter.proofs.Outcome.{answered}
 use Rattle.exact.specs.Demands.{Demand1, Demand2, Claim}
+use Rattle.exact.proofs.Crossings.{highest-lowest, unaffected}
 use Rattle.exact.proofs.Demand3.{demand3}
 use Rattle.exact.proofs.Lost.{nothing-lost, measured}
 use Rattle.exact.proofs.NoOffset.{no-offset}
@@ -38,6 +39,8 @@ demand2 =
       worked-out = λ j l. worked-out j;
       reported = answered;
       factor = factor-never-above;
+      highest-lowest = highest-lowest;
+      unaffected = unaffected;
       percent-never-falls = percent-never-smaller;
       block-taken = block-taken;
       block-samples = λ m b z. block-samples m b (block-taken m b .0 z);

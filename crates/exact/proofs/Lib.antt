@@ -1,5 +1,6 @@
 mod Calls
 pub mod Claim
+pub mod Crossings
 pub mod Demand3
 mod Envelope
 pub mod Fractions

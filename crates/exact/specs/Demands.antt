@@ -1,6 +1,6 @@
 -- The whole claim: the customer's three demands, each a record with a field for each clause of its sentence, and `Claim`, that all three hold. What
 -- only the check of the code can show stands as a comment that names the contracts. What is in quotes are his words; his "document 01" is the scope
--- that docs/METHOD.md states, as his requests L1 and L2 amend it.
+-- that docs/METHOD.md states, as his requests amend it.
 use mathlib.Core.Bool.{Bool, true, false}
 use mathlib.Core.List.{List, [], _∷_}
 use mathlib.Core.Logic.{_↔_}
@@ -19,7 +19,7 @@ use Rattle.sample.specs.Envelope.{threshold, workedOut}
 use Rattle.sample.specs.Sample.{freshState, stateAfter}
 use Rattle.meter.specs.declared.Meter.{Meter}
 use Rattle.meter.specs.declared.Report.{Report}
-use Rattle.meter.specs.Answered.{AllZero, Answered}
+use Rattle.meter.specs.Answered.{CrossingAt, Used, AllZero, Active, Answered}
 use Rattle.meter.specs.Calls.{HandedReport, countingOf, afterSamples, openCall, chunkCall, blockCall, reportCall}
 use Rattle.meter.specs.Opened.{Fresh, Zeros}
 use Rattle.meter.specs.Refusals.{impossible, openRules, chunkRules, blockCallRules}
@@ -104,6 +104,12 @@ pub record Demand1 : Type 0 where
 
 -- ---- demand 2: "Nothing reported may differ from method B"
 
+-- the lowest crossing of a meter, which no report uses any more: there is none at a lower place. It serves the two clauses from request L4 and nothing
+-- else
+pub record LowestCrossing (m : Meter) (j : ℕ) : Type 0 where
+  pub crossing : CrossingAt m j
+  pub none-lower : (i : ℕ) → i < j → CrossingAt m i → ⊥
+
 pub record Demand2 : Type 0 where
   -- "sums, envelope, counts": opening gives the fresh meter, and after a list of calls the meter is the one that METHOD.md's formulas lead to over
   -- the accepted ones' samples, in order, however they were cut into calls
@@ -115,9 +121,14 @@ pub record Demand2 : Type 0 where
   -- and of the thresholds that these counts are of, as his request L3 has it, "that the j-th so worked out is c_j, for each j from 0 to 14". That the
   -- code gets them so is the contracts of `Band::lowest` and `next_threshold` in `sample`; that "no table in the library shall list them" is tested
   pub worked-out : (j : ℕ) → j < thresholds → workedOut j ≡ threshold j
-  -- "crossing, levels and factor": a report on any meter that 2 lets pass is the one of METHOD.md; F is never above 0
+  -- "crossing, levels and factor": a report on any meter that 2 lets pass is the one of METHOD.md, in which, as his request L4 has it, "the highest
+  -- crossing is used"; F is never above 0
   pub reported : (m : Meter) → impossible m ≡ false → Answered m (reportCall m .number) (reportCall m .report)
   pub factor : (m : Meter) → reportCall m .number ≡ 0 → ltZ (pos 0) (reportCall m .report .levels .factor .0) ≡ false
+  -- and, as L4 goes on, "Refusals 15 and 16 are unaffected, since they depend on there being none": there is a highest crossing exactly where there is a
+  -- lowest; and where n, sq and a_0 are above 0 the report has levels, and not one of these two refusals, exactly where there is a lowest
+  pub highest-lowest : (m : Meter) → ((j : ℕ) × Used m j) ↔ ((j : ℕ) × LowestCrossing m j)
+  pub unaffected : (m : Meter) → impossible m ≡ false → Active m → (reportCall m .number ≡ 0) ↔ ((j : ℕ) × LowestCrossing m j)
   -- and, as his request L1 has it, "A larger F must never show a smaller percentage": of any two reports with levels
   pub percent-never-falls : (m m′ : Meter) → reportCall m .number ≡ 0 → reportCall m′ .number ≡ 0
       → leZ (reportCall m .report .levels .factor .0) (reportCall m′ .report .levels .factor .0) ≡ true

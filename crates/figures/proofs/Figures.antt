@@ -10,7 +10,7 @@ use Rattle.sample.specs.Activity.{counted, hung}
 use Rattle.sample.specs.Envelope.{smooth, size, rectified, threshold}
 use Rattle.sample.specs.Sample.{listFrom, freshState, summed, counts, hangovers, stateAfterOne, stateAfter}
 use Rattle.crossing.specs.Levels.{longTerm, activeAt, levelOfThreshold, excess}
-use Rattle.crossing.specs.Crossing.{isCrossing, lowestFrom, crossing, lowerOf, activeLevel}
+use Rattle.crossing.specs.Crossing.{isCrossing, highestBelow, crossing, lowerOf, activeLevel}
 use Rattle.crossing.specs.Searched.{levelsAt, noLevels, crossingIn, firstExcess}
 use Rattle.percent.specs.Percent.{notAbove}
 use Rattle.meter.specs.Refusals.{anyOf, someBelow, unnamedCode, manySamples, largeSum, largeSquares, largeP, largeQ, impossibleSums, longHangover, largeCount, risingCount, fallingHangover, impossibleCounter, impossible, longChunk, wrongPlace, tooMany, openRules, chunkRules, blockCallRules}
@@ -27,5 +27,5 @@ use Rattle.figures.specs.Table.{run, faults, table}
 use Rattle.figures.proofs.Rows.{sameShown, testOf, test, allTrue, sound-table}
 
 pub figures : All table
-unfolding placeUpTo place startOf bit next spell lev levelOf rateOf isNamed rowOf firstOf numberAt kind rateCode count before signed samplesAt samplesIn word sumBelow checkSum weightedSum wrongLength wrongCheck wrongKind wrongRate wrongCount zeros usedUnused blockRules sound hostRules hostCheck counted hung smooth size rectified threshold listFrom words freshState kOf iOf fresh zeroMeter countingOf afterSamples summed counts hangovers stateAfterOne stateAfter longTerm activeAt levelOfThreshold excess isCrossing lowestFrom crossing lowerOf activeLevel notAbove anyOf someBelow unnamedCode manySamples largeSum largeSquares largeP largeQ impossibleSums longHangover largeCount risingCount fallingHangover impossibleCounter impossible longChunk wrongPlace tooMany openRules chunkRules blockCallRules levelsAt noLevels crossingIn firstExcess crossingOf firstOfMeter noSamples noSignal noActivity levelBelow levelAbove reportRules noReport reportWith reportAt reportFor openCall chunkCall blockCall reportCall startAt start distance reaches countNext hangoverNext takeOne takeAll accepts broughtBy fed exactly called after given sampledMeter meterFrom exactFrom numbersOf levelsOf valuesOf bytes pairs blockOf soundBlock fullBlock endBlock twenty threeBytes otherSum highSum otherWeighted otherKind otherCode noCount highCount usedNext usedLast run faults table sameShown testOf test allTrue
+unfolding placeUpTo place startOf bit next spell lev levelOf rateOf isNamed rowOf firstOf numberAt kind rateCode count before signed samplesAt samplesIn word sumBelow checkSum weightedSum wrongLength wrongCheck wrongKind wrongRate wrongCount zeros usedUnused blockRules sound hostRules hostCheck counted hung smooth size rectified threshold listFrom words freshState kOf iOf fresh zeroMeter countingOf afterSamples summed counts hangovers stateAfterOne stateAfter longTerm activeAt levelOfThreshold excess isCrossing highestBelow crossing lowerOf activeLevel notAbove anyOf someBelow unnamedCode manySamples largeSum largeSquares largeP largeQ impossibleSums longHangover largeCount risingCount fallingHangover impossibleCounter impossible longChunk wrongPlace tooMany openRules chunkRules blockCallRules levelsAt noLevels crossingIn firstExcess crossingOf firstOfMeter noSamples noSignal noActivity levelBelow levelAbove reportRules noReport reportWith reportAt reportFor openCall chunkCall blockCall reportCall startAt start distance reaches countNext hangoverNext takeOne takeAll accepts broughtBy fed exactly called after given sampledMeter meterFrom exactFrom numbersOf levelsOf valuesOf bytes pairs blockOf soundBlock fullBlock endBlock twenty threeBytes otherSum highSum otherWeighted otherKind otherCode noCount highCount usedNext usedLast run faults table sameShown testOf test allTrue
 figures = sound-table table refl

@@ -26,7 +26,7 @@ use Rattle.percent.proofs.Laws.{never-smaller}
 use Rattle.setting.specs.declared.Setting.{Setting}
 use Rattle.meter.specs.declared.Meter.{Meter}
 use Rattle.meter.specs.declared.Report.{Report}
-use Rattle.meter.specs.Answered.{powerOf, CrossingAt, Used, ReportAt, AllZero, Answered, no-samples, no-signal, no-activity, level-below, level-above, levels}
+use Rattle.meter.specs.Answered.{powerOf, CrossingAt, Used, ReportAt, AllZero, Active, Answered, no-samples, no-signal, no-activity, level-below, level-above, levels}
 use Rattle.meter.specs.Calls.{fresh, zeroMeter, afterSamples, openCall, chunkCall, blockCall, reportCall}
 use Rattle.meter.specs.Opened.{Fresh, Zeros}
 use Rattle.meter.specs.Refusals.{unnamedCode, anyOf, impossible, longChunk, tooMany, openRules, chunkRules, blockCallRules}
@@ -160,6 +160,15 @@ with-levels (no-activity r z n s a) e = absurd (omega arith)
 with-levels (level-below r z a n d) e = absurd (omega arith)
 with-levels (level-above r z a n d) e = absurd (omega arith)
 with-levels (levels r j n s u a) e = record { n-pos = n; sq-pos = s; j = j; used = u; report = a }
+
+-- and where something was measured it is given wherever there is a crossing
+pub crossed-levels : {m : Meter} {k : ℕ} {r : Report} → Answered m k r → Active m → (j : ℕ) → CrossingAt m j → k ≡ 0
+crossed-levels (no-samples r z n) s j c = absurd (omega (arith, n, s .n))
+crossed-levels (no-signal r z n q) s j c = absurd (omega (arith, q, s .sq))
+crossed-levels (no-activity r z n q a) s j c = absurd (omega (arith, a, s .a))
+crossed-levels (level-below r z a none d) s j c = absurd (none j c)
+crossed-levels (level-above r z a none d) s j c = absurd (none j c)
+crossed-levels (levels r i n q u a) s j c = refl
 
 -- 0, 15 and 16 are given only where something was measured
 some-measured : {m : Meter} {k : ℕ} {r : Report} → Answered m k r → (k ≡ 0) ⊎ (15 ≤ k) → (0 < m .state .sums .n .0) × (0 < twoWords (m .state .sums .sq))

@@ -1,6 +1,6 @@
 -- What a report call hands back on a meter that refusal 2 lets pass, case by case in the order of testing; and that it is the report of METHOD.md:
 -- `answered`.
-use mathlib.Core.Bool.{Bool, true, false, cond, _&&_}
+use mathlib.Core.Bool.{Bool, true, false, cond, _&&_, true≢false}
 use mathlib.Core.List.{List, [], _∷_}
 use mathlib.Core.Option.{Option, none, some}
 use mathlib.Core.Path.{_≡_, refl, sym, ap, _∙_, subst}
@@ -19,7 +19,7 @@ use Rattle.sample.specs.Sample.{listFrom}
 use Rattle.crossing.specs.Levels.{excess}
 use Rattle.crossing.specs.Crossing.{isZero, isCrossing, crossing}
 use Rattle.crossing.specs.Searched.{levelsAt, noLevels, crossingIn, firstExcess}
-use Rattle.crossing.proofs.Searching.{found, not-found}
+use Rattle.crossing.proofs.Searching.{Highest, found, not-found}
 use Rattle.percent.proofs.Laws.{percent-is}
 use Rattle.meter.specs.declared.Meter.{Meter}
 use Rattle.meter.specs.Answered.{powerOf, CrossingAt, Used, ReportAt, AllZero, Active, Answered, no-samples, no-signal, no-activity, level-below, level-above, levels}
@@ -44,6 +44,19 @@ signs (negsuc n) p q = absurd (subst T p tt)
 first-crosses : (M S : ℤ) (a : List Samples) → 0 < activity a 0 → isZero (excess M S a 0) ≡ true → isCrossing M S a 0 ≡ true
 unfolding isCrossing
 first-crosses M S a p z = simp (lt-ltb 0 (activity a 0) p, z)
+
+-- ---- the crossing that is used
+
+-- whether there is a crossing of the meter at a place
+abbrev pub crosses : Meter → ℕ → Bool
+crosses m = isCrossing margin (powerOf m) (m .state .a)
+
+pub no-crossing : (m : Meter) (j : ℕ) → crosses m j ≡ false → CrossingAt m j → ⊥
+no-crossing m j e c = absurd (true≢false (sym (c .crosses) ∙ e))
+
+pub highest-used : (m : Meter) (j : ℕ) → Highest (crosses m) thresholds j → Used m j
+highest-used m j h =
+    record { crossing = record { place = h .place; crosses = h .holds }; none-higher = λ i l c. no-crossing m i (h .none-higher i l (c .place)) c }
 
 -- ---- the number and the report, where the tests before have passed
 
@@ -88,8 +101,7 @@ module _ (m : Meter) (t : Tested m) where
 
   nowhere : crossingOf m ≡ none → (j : ℕ) → CrossingAt m j → ⊥
   unfolding crossingOf crossingIn crossing
-  nowhere e j c =
-      absurd (subst T (sym (c .crosses) ∙ not-found (isCrossing margin (powerOf m) (m .state .a)) 0 thresholds e j (omega arith) (omega (arith, c .place))) tt)
+  nowhere e j c = no-crossing m j (not-found (crosses m) thresholds e j (c .place)) c
 
   a-above : 0 < activity (m .state .a) 0
   unfolding noActivity
@@ -119,12 +131,7 @@ module _ (m : Meter) (t : Tested m) where
 
   used : (j : ℕ) → crossingOf m ≡ some j → Used m j
   unfolding crossingOf crossingIn crossing
-  used j e =
-      let f = found (isCrossing margin (powerOf m) (m .state .a)) 0 thresholds j e in
-      record {
-        crossing = record { place = f .to; crosses = f .holds };
-        none-lower = λ i l c. absurd (subst T (sym (c .crosses) ∙ f .none-lower i (omega arith) l) tt);
-      }
+  used j e = highest-used m j (found (crosses m) thresholds j e)
 
 -- ---- the report of METHOD.md
 

@@ -27,10 +27,10 @@ pub record CrossingAt (m : Meter) (j : ℕ) : Type 0 where
   pub place : j < thresholds
   pub crosses : isCrossing margin (powerOf m) (m .state .a) j ≡ true
 
--- the crossing that is used: there is none at a lower place
+-- the crossing that is used: there is none at a higher place
 pub record Used (m : Meter) (j : ℕ) : Type 0 where
   pub crossing : CrossingAt m j
-  pub none-lower : (i : ℕ) → i < j → CrossingAt m i → ⊥
+  pub none-higher : (i : ℕ) → j < i → CrossingAt m i → ⊥
 
 -- the report at a crossing j, field by field
 pub record ReportAt (m : Meter) (j : ℕ) (r : Report) : Type 0 where

@@ -24,7 +24,7 @@ abbrev pub isNone : Option ℕ → Bool
 isNone none = true
 isNone (some j) = false
 
--- the crossing of a meter, and d_0
+-- the highest crossing of a meter, and d_0
 unfoldable pub crossingOf : Meter → Option ℕ
 crossingOf m = crossingIn margin (twoWords (m .state .sums .sq)) (m .state .a)
 

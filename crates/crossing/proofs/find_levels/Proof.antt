@@ -1,4 +1,4 @@
--- What the parts found is what the definition says of the lowest crossing.
+-- What the parts found is what the definition says of the highest crossing.
 use borrow.Author.Needs.{needs}
 use mathlib.Core.Bool.{Bool, true, false, cond}
 use mathlib.Core.List.{List}
@@ -79,8 +79,8 @@ start c = c .before .before .before
 at : (c : tie.After-j) → let s = start c .before .before .args in AtCrossing (s .margin .0) (start c .steps .result .0) (s .t3) (c .j .given .0 .0)
 unfolding placeOf crossing
 at c =
-    let f = found _ 0 thresholds _ (sym (c .before .before .crossing .ensures) ∙ ap placeOf (c .j .given .1)) in
-    record { search = searchable (start c); place = f .to; crosses = f .holds }
+    let f = found _ thresholds _ (sym (c .before .before .crossing .ensures) ∙ ap placeOf (c .j .given .1)) in
+    record { search = searchable (start c); place = f .place; crosses = f .holds }
 
 -- none found, by the sign of d_0
 none-found : (c : tie.After-below-zero) (t : Bool) → c .below-zero .result ≡ t → Right (c .before .before .before .before .before) (cond t Below Above)

@@ -1,11 +1,11 @@
--- The search for the lowest crossing.
+-- The search for the highest crossing.
 use mathlib.Core.List.{List}
 use mathlib.Core.Option.{Option, none, some}
 use Prim.Native.Nat.{ℕ}
 use lib.IntN.{ℤ}
 use Rattle.level.specs.declared.Samples.{Samples}
-use Rattle.crossing.specs.declared.lowest.Place.{Place}
-use Rattle.crossing.specs.declared.lowest.Place.the-variants.{At, Nowhere}
+use Rattle.crossing.specs.declared.search.Place.{Place}
+use Rattle.crossing.specs.declared.search.Place.the-variants.{At, Nowhere}
 use Rattle.crossing.specs.Inner.FindLevels.{Falling}
 use Rattle.crossing.specs.Inner.Steps.{InRange}
 
