@@ -36,7 +36,8 @@ fn numbers(meter: &Meter, given: u32) -> [Clause; 6] {
     rows.map(|(r, clause, condition)| (clause, (given == r) == condition))
 }
 
-/// The report is the one at a crossing, the one that is used (the customer's scope, "The report").
+/// The report is the one at a crossing, the one that is used, which is the highest (the customer's
+/// scope, "The report"; the customer's request L4).
 fn fields(meter: &Meter, report: &Report) -> Vec<Clause> {
     let j = report.upper;
     let at_j = "a crossing at the upper threshold";

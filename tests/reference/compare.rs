@@ -109,7 +109,8 @@ fn report(tally: &mut Tally, name: &str, exact: &Exact, shown: Option<&Meter>, l
     }
 }
 
-/// The clauses of demand 3 about the active level of a report.
+/// The clauses of demand 3 about the active level of a report, at the crossing that it tells, which
+/// by the clauses on the meter shown is the one that is used (the customer's request L4).
 fn level(tally: &mut Tally, name: &str, exact: &Exact, report: &Report) {
     let &Report {
         A, lower, upper, ..

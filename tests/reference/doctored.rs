@@ -5,7 +5,7 @@ mod offsets;
 
 use crate::answer;
 use crate::compare::agrees;
-use crate::generate::signals::around;
+use crate::generate::signals::{around, hum_and_exact_shout};
 use crate::measurement;
 use crate::meter::{Meter, Report};
 use crate::records::Record;
@@ -74,9 +74,21 @@ fn hum_and_shout() -> Vec<i16> {
     [&[6; 250][..], &[52; 30]].concat()
 }
 
+/// Steady hum, louder for a while, that ends in a shout: crossings at 2, at 4 and at 6.
+fn hum_rise_and_shout() -> Vec<i16> {
+    [&[6; 1300][..], &[30; 90], &[170; 25]].concat()
+}
+
+/// Hum too faint for a level, with a shout at its end: d_0 is negative, and a crossing is at 2.
+fn faint_hum_and_shout() -> Vec<i16> {
+    [&[2; 200][..], &[13; 38]].concat()
+}
+
 /// Every wrong answer.
 pub fn doctored(tally: &mut Tally) {
     numbers(tally);
+    crossings(tally);
+    level_above(tally);
     reports(tally);
     percentages(tally);
     percentages_at_ends(tally);
@@ -110,18 +122,52 @@ fn numbers(tally: &mut Tally) {
     }
 }
 
-/// The report at the other crossing, and reports with one thing off.
+/// Lists with several crossings, all of them changes of sign, or the highest two with a d_j of 0.
+fn crossings(tally: &mut Tally) {
+    at_crossings(tally, &hum_and_shout(), &[2, 4]);
+    at_crossings(tally, &hum_rise_and_shout(), &[2, 4, 6]);
+    at_crossings(tally, &hum_and_exact_shout(1), &[4, 5, 6]);
+}
+
+/// The reports at all the crossings of a list: the one at the highest breaks nothing, and any other
+/// just the clause that it is used (the customer's request L4).
+fn at_crossings(tally: &mut Tally, samples: &[i16], places: &[usize]) {
+    let list = List::of_chunk(0, samples);
+    let found: Vec<usize> = list.meter.crossings().collect();
+    tally.equal("the crossings of a list", &found[..], places);
+    for (i, &j) in places.iter().enumerate() {
+        let report = list.meter.report_at(j).expect("a crossing at j");
+        let highest = i + 1 == places.len();
+        let clauses = ["the crossing that is used"];
+        let broken = if highest { &[][..] } else { &clauses };
+        list.breaks(tally, &report_line(&Ok(report)), broken);
+    }
+}
+
+/// A level although d_0 is negative: refusal 15 is for no crossing at all.
+fn level_above(tally: &mut Tally) {
+    let list = List::of_chunk(0, &faint_hum_and_shout());
+    tally.holds("a negative d_0", list.meter.d(0) < Some(0));
+    let level = list.meter.report_at(2).expect("a crossing at 2");
+    list.breaks(tally, &report_line(&Ok(level)), &[]);
+    let clauses = [
+        "0 just where a crossing is",
+        "15 just where d_0 < 0, no crossing",
+    ];
+    list.breaks(tally, "report 15", &clauses);
+}
+
+/// Reports with one thing off.
 fn reports(tally: &mut Tally) {
     let list = List::of_chunk(0, &hum_and_shout());
-    let [lowest, other] = [2, 4].map(|j| list.meter.report_at(j).expect("a crossing at j"));
+    let right = list.meter.report_at(4).expect("a crossing at 4");
     let with = |change: &dyn Fn(&mut Report)| {
-        let mut report = lowest.clone();
+        let mut report = right.clone();
         change(&mut report);
         report
     };
     let rows = [
-        ("the crossing that is used", other),
-        ("a crossing at the upper threshold", with(&|r| r.upper = 3)),
+        ("a crossing at the upper threshold", with(&|r| r.upper = 5)),
         ("the lower threshold", with(&|r| r.lower = 0)),
         ("the report's n", with(&|r| r.n += 1)),
         ("the report's s", with(&|r| r.s = -r.s)),

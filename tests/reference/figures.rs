@@ -1,6 +1,7 @@
 //! The worked figures, and a few further ones; wrong answers that the check of demand 3 refuses.
 
 mod crossings;
+mod highest;
 mod offsets;
 
 use crate::block;
@@ -22,12 +23,13 @@ pub fn figures() -> bool {
     bounds(&mut tally);
     program(&mut tally);
     exact_threshold(&mut tally);
-    further_reports(&mut tally);
+    further_report(&mut tally);
     percentages(&mut tally);
     percentage_never_falls(&mut tally);
     percentage_is_near(&mut tally);
     offsets::offsets(&mut tally);
     crossings::crossings(&mut tally);
+    highest::highest(&mut tally);
     doctored(&mut tally);
     tally.finish()
 }
@@ -96,6 +98,29 @@ fn handed_in(n: u64, sq: u128, a: &[u64]) -> Meter {
     meter
 }
 
+/// The report of a meter with these L, A, C and F, lower and upper threshold and T.
+fn report_with(
+    meter: &Meter,
+    [L, A, C, F]: [i64; 4],
+    lower: usize,
+    upper: usize,
+    T: u64,
+) -> Report {
+    Report {
+        n: meter.n,
+        s: meter.s,
+        sq: meter.sq,
+        a: meter.a,
+        L,
+        A,
+        C,
+        F,
+        lower,
+        upper,
+        T,
+    }
+}
+
 /// The rows of reports (the customer's scope, "Worked figures"), with their T.
 fn reports(tally: &mut Tally) {
     let full = handed_in(16384, 1 << 30, &[4096; 8]);
@@ -107,20 +132,8 @@ fn reports(tally: &mut Tally) {
         ("a_7 2048", half, [65536, 76669, 55034, -11133], 6, 7, 1519),
         ("d_0 zero", zero, [21635, 21635, 0, 0], 0, 0, 10000),
     ];
-    for (name, meter, [L, A, C, F], lower, upper, T) in rows {
-        let report = Report {
-            n: meter.n,
-            s: meter.s,
-            sq: meter.sq,
-            a: meter.a,
-            L,
-            A,
-            C,
-            F,
-            lower,
-            upper,
-            T,
-        };
+    for (name, meter, levels, lower, upper, T) in rows {
+        let report = report_with(&meter, levels, lower, upper, T);
         tally.equal(name, meter.report(), Ok(report));
     }
 
@@ -186,14 +199,8 @@ fn exact_threshold(tally: &mut Tally) {
     tally.equal("9126, 11705 at code 1, counts", meter.a, counts);
 }
 
-/// Two crossings, of which the lowest is used, and an interpolation off the powers of two.
-fn further_reports(tally: &mut Tally) {
-    let mut a = [1 << 14; 15];
-    a[..4].fill(1 << 30);
-    let found = handed_in(1 << 30, 1 << 40, &a).report();
-    let found = found.map(|report| (report.A, report.lower, report.upper));
-    tally.equal("two crossings", found, Ok((40960, 2, 3)));
-
+/// An interpolation off the powers of two.
+fn further_report(tally: &mut Tally) {
     let a = [4096, 4096, 4096, 4096, 4096, 4096, 4096, 3000];
     let found = handed_in(16384, 1 << 30, &a)
         .report()

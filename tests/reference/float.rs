@@ -1,7 +1,8 @@
 //! Method B of P.56 (clauses 8.2 and 8.3) in floating point, without the scope's rounding.
 //!
 //! Of the scope it takes only the places of the thresholds, at powers of two of the quantizing
-//! interval, and that of several crossings the lowest is used; the Recommendation leaves both open.
+//! interval, and of the customer's request L4 that of several crossings the highest is used; the
+//! Recommendation leaves both open.
 
 use crate::measurement::Levels;
 use crate::rate::Rate;
@@ -63,27 +64,46 @@ fn counts(rate: &Rate, samples: &[i16]) -> Vec<Counts> {
     counts
 }
 
-/// The active level: the point that is the margin above its threshold, on a straight line in
-/// decibels between two neighbouring thresholds and their estimates (P.56, clause 8.2).
-fn active_level(sq: f64, counts: &[Counts]) -> Option<f64> {
+/// The active levels, from the lowest on: each point that is the margin above its threshold, on a
+/// straight line in decibels between two neighbouring thresholds and their estimates (P.56, clause
+/// 8.2).
+fn active_levels(sq: f64, counts: &[Counts]) -> Vec<f64> {
     let estimates: Vec<(f64, f64)> = counts.iter().map(|count| count.estimate(sq)).collect();
-    let crossing = estimates
-        .windows(2)
-        .find(|pair| pair[0].1 >= 0.0 && pair[1].1 < 0.0)?;
-    let ((lower, d_lower), (upper, d_upper)) = (crossing[0], crossing[1]);
-    Some(lower + (upper - lower) * d_lower / (d_lower - d_upper))
+    let pairs = estimates.windows(2);
+    let crossings = pairs.filter(|pair| pair[0].1 >= 0.0 && pair[1].1 < 0.0);
+    let between = |pair: &[(f64, f64)]| {
+        let ((lower, d_lower), (upper, d_upper)) = (pair[0], pair[1]);
+        lower + (upper - lower) * d_lower / (d_lower - d_upper)
+    };
+    crossings.map(between).collect()
 }
 
-/// The levels of all samples; None where no threshold has the margin (P.56, clause 8.2).
-pub fn measure(rate: &Rate, samples: &[i16]) -> Option<Levels> {
-    let sq: f64 = samples.iter().map(|&x| f64::from(x) * f64::from(x)).sum();
-    let active = active_level(sq, &counts(rate, samples))?;
-    let long_term = 10.0 * (sq / samples.len() as f64).log10();
-    let factor = long_term - active;
-    Some(Levels {
+/// The sum of squares (P.56, clause 8.2, process 1).
+pub fn squares(samples: &[i16]) -> f64 {
+    samples.iter().map(|&x| f64::from(x) * f64::from(x)).sum()
+}
+
+/// The long-term level (P.56, clause 8.2).
+pub fn long_term_level(samples: &[i16]) -> f64 {
+    10.0 * (squares(samples) / samples.len() as f64).log10()
+}
+
+/// The levels of all samples at each crossing, from the lowest on; none where no threshold has the
+/// margin (P.56, clause 8.2).
+pub fn crossings(rate: &Rate, samples: &[i16]) -> Vec<Levels> {
+    let long_term = long_term_level(samples);
+    let levels = |active: f64| Levels {
         long_term,
         active,
-        factor,
-        percent: 100.0 * 10f64.powf(factor / 10.0),
-    })
+        factor: long_term - active,
+        percent: 100.0 * 10f64.powf((long_term - active) / 10.0),
+    };
+    let active = active_levels(squares(samples), &counts(rate, samples));
+    active.into_iter().map(levels).collect()
+}
+
+/// The levels of all samples at the crossing that is used, the highest (the customer's request L4);
+/// None where there is none.
+pub fn measure(rate: &Rate, samples: &[i16]) -> Option<Levels> {
+    crossings(rate, samples).pop()
 }

@@ -8,6 +8,7 @@
 mod answer;
 mod big;
 mod block;
+mod chosen;
 mod clause11;
 mod compare;
 mod crossed;
@@ -29,6 +30,7 @@ mod report;
 mod speech;
 mod tally;
 
+use speech::hum;
 use std::io::{self, Read, Write};
 use std::process::ExitCode;
 
@@ -96,29 +98,39 @@ fn samples(bytes: &[u8]) -> io::Result<Vec<i16>> {
     }
 }
 
-/// The samples of a voice.
-fn voice(code: &str, seed: &str) -> io::Result<bool> {
-    let Ok(seed) = seed.parse() else {
-        return error("SEED is a number");
-    };
+/// The seed of a voice.
+fn seed_of(seed: &str) -> io::Result<u64> {
+    seed.parse().or_else(|_| error("SEED is a number"))
+}
+
+/// Samples to standard output.
+fn output_samples(samples: &[i16]) -> io::Result<bool> {
     let mut bytes = Vec::new();
-    records::write_samples(&speech::voice(rate_of(code)?, seed), &mut bytes);
+    records::write_samples(samples, &mut bytes);
     output(&bytes)
 }
 
 /// Runs a command about speech.
 fn speech(arguments: &[&str]) -> io::Result<bool> {
     match arguments {
-        ["voice", code, seed] => voice(code, seed),
+        ["voice", code, seed] => output_samples(&speech::voice(rate_of(code)?, seed_of(seed)?)),
+        ["hum", code, seed] => {
+            output_samples(&hum::Line::new(rate_of(code)?, seed_of(seed)?).samples())
+        }
         ["script", code] => output(&speech::script(rate_of(code)?, &samples(&input()?)?)),
         ["check", code, recording, printed] => {
             let samples = samples(&std::fs::read(recording)?)?;
             let printed = std::fs::read_to_string(printed)?;
             Ok(speech::check(rate_of(code)?, &samples, &printed).finish())
         }
-        _ => {
-            error("speech voice CODE SEED | speech script CODE | speech check CODE SAMPLES OUTPUT")
+        ["heard", code, seed, printed] => {
+            let printed = std::fs::read_to_string(printed)?;
+            Ok(hum::heard(rate_of(code)?, seed_of(seed)?, &printed).finish())
         }
+        _ => error(
+            "speech voice CODE SEED | speech hum CODE SEED | speech script CODE | \
+             speech check CODE SAMPLES OUTPUT | speech heard CODE SEED OUTPUT",
+        ),
     }
 }
 
@@ -144,6 +156,7 @@ fn run(arguments: &[&str]) -> io::Result<bool> {
         ["samples"] => lines(replay::accepted_samples(&input()?), BAD_RECORD),
         ["largest"] => lines(replay::largest_size(&input()?), BAD_RECORD),
         ["crossed"] => lines(crossed::crossed(&input()?), BAD_RECORD),
+        ["chosen"] => lines(chosen::chosen(&input()?), BAD_RECORD),
         ["agrees", script, printed] => {
             let script = std::fs::read(script)?;
             counted(compare::agrees(&script, &std::fs::read_to_string(printed)?))
@@ -155,8 +168,8 @@ fn run(arguments: &[&str]) -> io::Result<bool> {
         ["speech", arguments @ ..] => speech(arguments),
         _ => error(
             "replay | report | host | generate KIND SEED COUNT | blocks CODE | figures | exact | \
-             counts | samples | largest | crossed | agrees SCRIPT OUTPUT | clause11 script | \
-             clause11 check OUTPUT | speech ...",
+             counts | samples | largest | crossed | chosen | agrees SCRIPT OUTPUT | \
+             clause11 script | clause11 check OUTPUT | speech ...",
         ),
     }
 }

@@ -223,9 +223,15 @@ impl Meter {
         d_j == 0 || falls
     }
 
-    /// Whether the crossing at j is the one used: none is lower (the customer's scope, "The report").
+    /// The places of the crossings, from the lowest on (the customer's scope, "The report").
+    pub fn crossings(&self) -> impl Iterator<Item = usize> + '_ {
+        (0..15).filter(|&j| self.crossing_at(j))
+    }
+
+    /// Whether the crossing that is used is at j: one is there, and none is at a higher place (the
+    /// customer's request L4).
     pub fn uses_crossing(&self, j: usize) -> bool {
-        (0..j).all(|lower| !self.crossing_at(lower))
+        self.crossing_at(j) && (j + 1..15).all(|higher| !self.crossing_at(higher))
     }
 
     /// A and the lower and upper j at a crossing (the customer's scope, "The report").
@@ -262,7 +268,8 @@ impl Meter {
         })
     }
 
-    /// The report, or its lowest refusal (the customer's scope, "The report", "Why a call is refused").
+    /// The report, or its lowest refusal (the customer's scope, "The report", "Why a call is
+    /// refused"; the customer's request L4).
     pub fn report(&self) -> Result<Report, u32> {
         if self.refusal_2() {
             return Err(2);
@@ -276,7 +283,7 @@ impl Meter {
         let Some(d_0) = self.d(0) else {
             return Err(14);
         };
-        let crossing = (0..15).find(|&j| self.crossing_at(j) && self.uses_crossing(j));
+        let crossing = (0..15).find(|&j| self.uses_crossing(j));
         match crossing.and_then(|j| self.report_at(j)) {
             Some(report) => Ok(report),
             None if d_0 < 0 => Err(15),

@@ -1,5 +1,6 @@
 //! Speech measured by a replay program and by floating-point method B, side by side.
 
+pub mod hum;
 mod voice;
 
 use crate::float;
@@ -23,11 +24,12 @@ const LONG_TERM_BOUND: f64 = 2.0 * STEP;
 /// much again as the line: together less than 4.3 steps, 0.0032 dB. The factor is no further off,
 /// since an error of lev(sq) is in both its levels. The rest of the bound is for counts that
 /// differ by a sample here and there, as K is within 0.02 % of the exponential. Over speech of
-/// several voices at all rates the difference stayed below 0.002 dB.
+/// several voices at all rates, and over rare speech with hum under it, the difference stayed below
+/// 0.002 dB.
 ///
 /// One thing could go beyond: an envelope whose peak reaches a threshold in one meter and just
-/// misses it in the other, which is a whole hangover of difference. The longer the recording, the
-/// less that weighs.
+/// misses it in the other, which is a whole hangover of difference. The more is spoken, the less
+/// that weighs.
 const ACTIVE_BOUND: f64 = 0.005;
 
 /// How far apart the percentages may be, in percent.

@@ -6,7 +6,7 @@ use crate::records::Record;
 use crate::tally::Tally;
 
 /// A script of these records.
-fn script(records: &[Record]) -> Vec<u8> {
+pub fn script(records: &[Record]) -> Vec<u8> {
     let mut bytes = Vec::new();
     for record in records {
         record.write(&mut bytes);

@@ -1,8 +1,9 @@
 //! The figures of a standing offset (the customer's request L2).
 
+use super::report_with;
 use crate::block;
 use crate::generate::signals::around;
-use crate::meter::{Meter, Report, MOST_SAMPLES};
+use crate::meter::{Meter, MOST_SAMPLES};
 use crate::rate::RATES;
 use crate::speech::voice;
 use crate::tally::Tally;
@@ -92,7 +93,7 @@ fn bounds(tally: &mut Tally) {
     }
 }
 
-/// The largest sq there is, 2^80, and the highest crossing.
+/// The largest sq there is, 2^80, which has its crossing at the highest threshold.
 fn loudest(tally: &mut Tally) {
     let meter = Meter {
         n: MOST_SAMPLES,
@@ -100,19 +101,7 @@ fn loudest(tally: &mut Tally) {
         a: [MOST_SAMPLES; 15],
         ..Meter::open(2, 32767).0
     };
-    let report = Report {
-        n: meter.n,
-        s: meter.s,
-        sq: meter.sq,
-        a: meter.a,
-        L: 131072,
-        A: 131072,
-        C: 109437,
-        F: 0,
-        lower: 13,
-        upper: 14,
-        T: 10000,
-    };
+    let report = report_with(&meter, [131072, 131072, 109437, 0], 13, 14, 10000);
     tally.equal("sq 2^80", meter.report(), Ok(report));
 }
 

@@ -99,6 +99,37 @@ pub fn of_factor(random: &mut Random, code: u8, F: i64) -> Meter {
     }
 }
 
+/// A meter whose d_j waver around 0, so that it has many crossings, up to one at every j; in some
+/// the highest thresholds were never reached.
+///
+/// No d_j is above 4096 or below -4096. So from one j to the next it falls by at most 8192, which
+/// it does where a_j stays the same; and a_0 is at most n, since with a d_0 of 0 its lev would be
+/// 4096 or more below that of n.
+pub fn wavering(random: &mut Random, code: u8) -> Meter {
+    let bits = random.between(30, 48);
+    let n = random.of_length(bits);
+    let level = steps(n).expect("n is above 0") - random.between(4096, 20480) as i64;
+    let some = random.between(1, 14) as usize;
+    let reached = random.pick(&[15, 15, some]);
+    let mut a = [0; 15];
+    for (j, a_j) in a[..reached].iter_mut().enumerate() {
+        *a_j = least_of_level(level - 8192 * j as i64 - near_zero(random)) as u64;
+    }
+    Meter {
+        n: n as u64,
+        s: 0,
+        sq: least_of_level(level + M),
+        a,
+        ..plausible(random, code)
+    }
+}
+
+/// A d_j: one time in three 0, one time in three next to it, else any up to 4096 either way.
+fn near_zero(random: &mut Random) -> i64 {
+    let any = random.between(0, 8192) as i64 - 4096;
+    random.pick(&[0, 0, 1, -1, any, any])
+}
+
 /// The least number below 2^80 whose lev is not below a level.
 fn least_of_level(level: i64) -> u128 {
     let (mut low, mut high) = (1, 1 << 80);

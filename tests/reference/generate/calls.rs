@@ -1,6 +1,6 @@
 //! Long scripts of calls on one line.
 
-use super::bounds::{bounds, most_squares, of_factor, plausible, tuned};
+use super::bounds::{bounds, most_squares, of_factor, plausible, tuned, wavering};
 use super::random::Random;
 use super::script::Script;
 use super::signals::{around, furthest, noise, placed, signal};
@@ -51,7 +51,7 @@ fn step(script: &mut Script) {
     if stuck && script.random.once_in(2) {
         return open(script);
     }
-    match script.random.below(82) {
+    match script.random.below(83) {
         0..=1 => open(script),
         2..=21 => chunk(script),
         22..=37 => sound_block(script),
@@ -68,6 +68,7 @@ fn step(script: &mut Script) {
         73..=74 => reported(script, tuned),
         75 => percentage_edge(script),
         76 => any_percentage(script),
+        77 => reported(script, wavering),
         _ => small_chunks(script),
     }
 }

@@ -3,7 +3,8 @@
 use super::random::Random;
 use super::script::Script;
 use super::signals::{
-    around, full_scale, furthest, grazing, hum_and_shout, noise_within, placed, signal,
+    around, full_scale, furthest, grazing, hum_and_exact_shout, hum_and_shout, noise_within,
+    placed, signal,
 };
 use crate::block;
 use crate::rate::{Rate, RATES};
@@ -13,10 +14,14 @@ use crate::speech::voice;
 /// About the most samples of a list.
 const TOTAL: usize = 600;
 
+/// The turns of the lists for several crossings.
+const TWO_CROSSINGS: u64 = 5;
+const THREE_CROSSINGS: u64 = 6;
+
 /// One list: an opening, so many calls, a show and a report.
 pub fn list(seed: u64, count: u64) -> Vec<u8> {
     let mut script = Script::new(seed);
-    let rate = &RATES[script.random.pick(&[0, 0, 0, 0, 1, 2])];
+    let rate = rate(&mut script.random, seed);
     let offset = offset(&mut script.random, seed);
     script.add(Record::Open(rate.code, offset));
     let samples = samples(&mut script.random, rate, offset, seed);
@@ -33,6 +38,19 @@ pub fn list(seed: u64, count: u64) -> Vec<u8> {
     script.bytes
 }
 
+/// The turn of a list: one seed in three is for one answer of a report, each in its turn; the
+/// others are for none.
+fn turn(seed: u64) -> Option<u64> {
+    (seed % 3 == 0).then_some(seed / 3 % 8)
+}
+
+/// The rate of a list: mostly, and for several crossings always, that of code 1.
+fn rate(random: &mut Random, seed: u64) -> &'static Rate {
+    let any = random.pick(&[0, 0, 0, 0, 1, 2]);
+    let several = matches!(turn(seed), Some(TWO_CROSSINGS | THREE_CROSSINGS));
+    &RATES[if several { 0 } else { any }]
+}
+
 /// The offset of a list; one seed in four has it at an end of the range.
 fn offset(random: &mut Random, seed: u64) -> i16 {
     if seed % 4 == 0 {
@@ -42,19 +60,18 @@ fn offset(random: &mut Random, seed: u64) -> i16 {
     }
 }
 
-/// The samples of a list. One seed in three is for one answer of a report, each in its turn: for
-/// refusals 12 to 16, then for two crossings and for speech. The others have any samples.
+/// The samples of a list: by its turn for refusals 12 to 16, for two crossings, for three, and for
+/// speech. The others have any samples.
 fn samples(random: &mut Random, rate: &Rate, offset: i16, seed: u64) -> Vec<i16> {
-    if seed % 3 != 0 {
-        return any_samples(random, rate, offset);
-    }
-    let samples = match seed / 3 % 7 {
-        0 => Vec::new(),
-        1 => vec![0; TOTAL],
-        2 => noise_within(random, 1, TOTAL),
-        3 => noise_within(random, 6, TOTAL),
-        4 => return loud(random, offset),
-        5 => hum_and_shout(random),
+    let samples = match turn(seed) {
+        None => return any_samples(random, rate, offset),
+        Some(0) => Vec::new(),
+        Some(1) => vec![0; TOTAL],
+        Some(2) => noise_within(random, 1, TOTAL),
+        Some(3) => noise_within(random, 6, TOTAL),
+        Some(4) => return loud(random, offset),
+        Some(TWO_CROSSINGS) => hum_and_shout(random),
+        Some(THREE_CROSSINGS) => hum_and_exact_shout(1 << random.below(8)),
         _ => spoken(random, rate),
     };
     around(offset, &samples)

@@ -113,6 +113,13 @@ pub fn hum_and_shout(random: &mut Random) -> Vec<i16> {
     [hum, shout].concat()
 }
 
+/// Hum and a shout for which code 1 has three crossings: a change of sign and, right above it, two
+/// where d_j is 0. Twice the unit has them one j higher, up to a unit of 128.
+pub fn hum_and_exact_shout(unit: i16) -> Vec<i16> {
+    let samples = [&[22][..], &[31; 104], &[174; 23]].concat();
+    samples.into_iter().map(|x| unit * x).collect()
+}
+
 /// Noise, a kick that brings Q to within a few units of a threshold not reached before, silence.
 pub fn grazing(random: &mut Random, rate: &Rate, length: usize) -> Vec<i16> {
     let start = random.between(60, 200) as usize;

@@ -11,10 +11,10 @@ const SECONDS: f64 = 30.0;
 const NOISE: f64 = 2.0;
 
 /// A voice under way: its chances, its rate and what was spoken so far.
-struct Voice {
+pub struct Voice {
     random: Random,
     samples_per_second: f64,
-    spoken: Vec<f64>,
+    pub spoken: Vec<f64>,
 }
 
 /// The voice of a seed: phrases with pauses, over faint noise.
@@ -22,27 +22,38 @@ struct Voice {
 /// Voices differ by up to four doublings of voltage, so that crossings lie anywhere between two
 /// thresholds. What is too loud for 16 bits clips.
 pub fn voice(rate: &Rate, seed: u64) -> Vec<i16> {
-    let mut voice = Voice {
-        random: Random::new(seed),
-        samples_per_second: rate.samples_per_second as f64,
-        spoken: Vec::new(),
-    };
+    let mut voice = Voice::new(rate, seed);
     let loudness = 500.0 * voice.random.fraction_between(0.0, 4.0).exp2();
-    let length = voice.samples_in(SECONDS);
-    while voice.spoken.len() < length {
-        voice.phrase(loudness);
-        voice.pause(0.2, 1.5);
-    }
+    voice.phrases(SECONDS, loudness, 0.2, 1.5);
     let Voice {
         mut random, spoken, ..
     } = voice;
-    spoken[..length]
+    spoken
         .iter()
         .map(|x| (x + NOISE * random.gaussian()).round() as i16)
         .collect()
 }
 
 impl Voice {
+    /// The voice of a seed before it speaks.
+    pub fn new(rate: &Rate, seed: u64) -> Voice {
+        Voice {
+            random: Random::new(seed),
+            samples_per_second: rate.samples_per_second as f64,
+            spoken: Vec::new(),
+        }
+    }
+
+    /// Phrases for so many seconds in all, with a pause of least to most seconds after each.
+    pub fn phrases(&mut self, seconds: f64, loudness: f64, least: f64, most: f64) {
+        let length = self.samples_in(seconds);
+        while self.spoken.len() < length {
+            self.phrase(loudness);
+            self.pause(least, most);
+        }
+        self.spoken.truncate(length);
+    }
+
     /// How many samples so many seconds have.
     fn samples_in(&self, seconds: f64) -> usize {
         (seconds * self.samples_per_second) as usize
