@@ -41,23 +41,24 @@ module _ (M S : ℤ) (a : List Samples) where
   turned below j = leb 1 j && ltZ (pos 0) (d (j - 1)) && below
 
   -- the crossing, where there is none above j
-  abbrev left : (below : Bool) (j : ℕ) → Option ℕ
-  left below j = cond (turned below j) (some j) (highestBelow (isCrossing M S a) j)
+  abbrev remains : (below : Bool) (j : ℕ) → Option ℕ
+  remains below j = cond (turned below j) (some j) (highestBelow (isCrossing M S a) j)
 
-  below-left : (below : Bool) (j : ℕ) → turned below j ≡ false → left below j ≡ highestBelow (isCrossing M S a) j
-  below-left below j t = ap (λ (b : Bool). cond b (some j) (highestBelow (isCrossing M S a) j)) t
+  remains-is : (below : Bool) (j : ℕ) (b : Bool) → turned below j ≡ b → remains below j ≡ cond b (some j) (highestBelow (isCrossing M S a) j)
+  remains-is below j b t = ap (λ (b : Bool). cond b (some j) (highestBelow (isCrossing M S a) j)) t
 
+  -- where d_j is not below 0 it does not turn
   not-below : (below : Bool) (j : ℕ) → below ≡ false → turned below j ≡ false
   not-below below j e = ap (λ (b : Bool). leb 1 j && ltZ (pos 0) (d (j - 1)) && b) e ∙ and-false (leb 1 j && ltZ (pos 0) (d (j - 1)))
 
   record Inv (below : Bool) (j : ℕ) : Type 0 where
     reach : j ≤ thresholds
     counted : activity a (j - 1) ≡ 0 → below ≡ false
-    rest : crossing M S a ≡ left below j
+    rest : crossing M S a ≡ remains below j
 
   begins : Inv false thresholds
   unfolding crossing
-  begins = record { reach = le-refl thresholds; counted = λ z. refl; rest = sym (below-left false thresholds (not-below false thresholds refl)) }
+  begins = record { reach = le-refl thresholds; counted = λ z. refl; rest = sym (remains-is false thresholds false (not-below false thresholds refl)) }
 
   ends : (below : Bool) (j : ℕ) → Inv below j → j ≤ 0 → crossing M S a ≡ none
   unfolding highestBelow
@@ -70,7 +71,7 @@ module _ (M S : ℤ) (a : List Samples) where
     tested x e = rw (le-leb 1 j l, e)
 
     rest-at : turned below j ≡ false → crossing M S a ≡ highestBelow (isCrossing M S a) (suc (j - 1))
-    rest-at t = let e : j ≡ suc (j - 1) = omega arith in inv .rest ∙ below-left below j t ∙ ap (highestBelow (isCrossing M S a)) e
+    rest-at t = let e : j ≡ suc (j - 1) = omega arith in inv .rest ∙ remains-is below j false t ∙ ap (highestBelow (isCrossing M S a)) e
 
     -- past a count of 0
     turn-empty : activity a (j - 1) ≡ 0 → Inv below (j - 1)
@@ -82,7 +83,7 @@ module _ (M S : ℤ) (a : List Samples) where
           counted = λ y. b;
           rest =
               rest-at (not-below below j b) ∙ past (isCrossing M S a) (j - 1) (simp z)
-              ∙ sym (below-left below (j - 1) (not-below below (j - 1) b));
+              ∙ sym (remains-is below (j - 1) false (not-below below (j - 1) b));
         }
 
     -- past a count above 0, at which d is not 0
@@ -99,10 +100,12 @@ module _ (M S : ℤ) (a : List Samples) where
     -- a crossing found at j − 1, and one at j
     at-zero : (x : ℤ) → x ≡ d (j - 1) → 0 < activity a (j - 1) → isZero x ≡ true → crossing M S a ≡ some (j - 1)
     unfolding isCrossing
-    at-zero x e h z = rest-at (sym (tested x e) ∙ ap (λ (b : Bool). b && below) (not-above x z)) ∙ here (isCrossing M S a) (j - 1) (simp (lt-ltb 0 (activity a (j - 1)) h, ap isZero (sym e) ∙ z))
+    at-zero x e h z =
+        rest-at (sym (tested x e) ∙ ap (λ (b : Bool). b && below) (not-above x z))
+        ∙ here (isCrossing M S a) (j - 1) (simp (lt-ltb 0 (activity a (j - 1)) h, ap isZero (sym e) ∙ z))
 
     at-turn : (x : ℤ) → x ≡ d (j - 1) → ltZ (pos 0) x && below ≡ true → crossing M S a ≡ some j
-    at-turn x e t = inv .rest ∙ ap (λ (b : Bool). cond b (some j) (highestBelow (isCrossing M S a) j)) (sym (tested x e) ∙ t)
+    at-turn x e t = inv .rest ∙ remains-is below j true (sym (tested x e) ∙ t)
 
 abbrev Inv-loop : tie.InvT-loop
 Inv-loop power margin a below₀ j₀ below j = Inv (margin .0) (power .0) a below j
