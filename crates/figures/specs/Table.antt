@@ -230,9 +230,9 @@ table =
     ∷ sampled (settingOf 1) (pos 9126 ∷ pos 11705 ∷ []) 16052775414 (2 ^ 30) (replicate 5 2 ++ (1 ∷ 1 ∷ replicate 8 0)) 16
     -- two crossings: the highest is used
     ∷ reported (2 ^ 30) (2 ^ 40) (replicate 4 (2 ^ 30) ++ replicate 11 (2 ^ 14)) (record { L = pos 40960; A = pos 106496; C = pos 84861; F = minus 65536; lower = 10; upper = 11; T = 0 })
-    -- three crossings, each interpolated; and three, the highest where a single sample counted
+    -- three crossings, each interpolated; and four, the highest where a single sample counted
     ∷ reported (2 ^ 20) (2 ^ 26) (2 ^ 20 ∷ 2 ^ 19 ∷ 2 ^ 16 ∷ 2 ^ 15 ∷ 2 ^ 12 ∷ replicate 10 (2 ^ 11)) (record { L = pos 24576; A = pos 60285; C = pos 38650; F = minus 35709; lower = 4; upper = 5; T = 23 })
-    ∷ reported 8192 (2 ^ 23) (replicate 4 8192 ++ (512 ∷ 512 ∷ replicate 9 1)) (record { L = pos 40960; A = pos 94208; C = pos 72573; F = minus 53248; lower = 8; upper = 9; T = 1 })
+    ∷ reported 8192 (2 ^ 23) (replicate 4 8192 ++ (512 ∷ 512 ∷ 32 ∷ 32 ∷ replicate 7 1)) (record { L = pos 40960; A = pos 94208; C = pos 72573; F = minus 53248; lower = 8; upper = 9; T = 1 })
     -- d is 0 at the higher of two crossings; and at the lower
     ∷ reported (2 ^ 30) (1275068 * 2 ^ 20) (replicate 4 (2 ^ 30) ++ replicate 11 (2 ^ 19)) (record { L = pos 42115; A = pos 87171; C = pos 65536; F = minus 45056; lower = 8; upper = 8; T = 4 })
     ∷ reported (2 ^ 31) (1275068 * 2 ^ 20) (replicate 4 (2 ^ 31) ++ replicate 11 (2 ^ 20)) (record { L = pos 38019; A = pos 83075; C = pos 61440; F = minus 45056; lower = 7; upper = 8; T = 4 })
