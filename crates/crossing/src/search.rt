@@ -15,7 +15,7 @@ pub enum Place {
 }
 
 // The highest crossing: the first that is met downwards from the highest threshold that counted
-// anything. `below` says whether d_j is below 0.
+// anything. `below` says whether d_j is below 0; where there is no d_j it is false.
 pub(crate) fn crossing(power: Steps, a: [Samples; THRESHOLDS], margin: Steps) -> Place
     requires { ⌜ Searchable (margin .0) (power .0) a ⌝ }
     ensures { λ r. ⌜ placeOf r ≡ crossingOf (margin .0) (power .0) a ⌝ }

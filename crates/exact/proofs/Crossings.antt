@@ -27,6 +27,9 @@ module _ (m : Meter) where
   used-highest j u =
       record { place = u .crossing .place; holds = u .crossing .crosses; none-higher = λ i l b. not-there i b (u .none-higher i l) }
 
+  lowest-crossing : (j : ℕ) → Lowest (crosses m) thresholds j → LowestCrossing m j
+  lowest-crossing j h = record { crossing = record { place = h .place; crosses = h .holds }; none-lower = λ i l. no-crossing m i (h .none-lower i l) }
+
   crossing-lowest : (j : ℕ) → LowestCrossing m j → Lowest (crosses m) thresholds j
   crossing-lowest j c =
       record {
@@ -34,9 +37,6 @@ module _ (m : Meter) where
         holds = c .crossing .crosses;
         none-lower = λ i l. not-there i (lt-trans l (c .crossing .place)) (c .none-lower i l);
       }
-
-  lowest-crossing : (j : ℕ) → Lowest (crosses m) thresholds j → LowestCrossing m j
-  lowest-crossing j h = record { crossing = record { place = h .place; crosses = h .holds }; none-lower = λ i l. no-crossing m i (h .none-lower i l) }
 
   pub highest-lowest : ((j : ℕ) × Used m j) ↔ ((j : ℕ) × LowestCrossing m j)
   highest-lowest =

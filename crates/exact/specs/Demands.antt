@@ -104,8 +104,7 @@ pub record Demand1 : Type 0 where
 
 -- ---- demand 2: "Nothing reported may differ from method B"
 
--- the lowest crossing of a meter, which no report uses any more: there is none at a lower place. It serves the two clauses from request L4 and nothing
--- else
+-- the lowest crossing of a meter, which no report uses: there is none at a lower place. It serves the two clauses about refusals 15 and 16
 pub record LowestCrossing (m : Meter) (j : ℕ) : Type 0 where
   pub crossing : CrossingAt m j
   pub none-lower : (i : ℕ) → i < j → CrossingAt m i → ⊥
@@ -126,7 +125,7 @@ pub record Demand2 : Type 0 where
   pub reported : (m : Meter) → impossible m ≡ false → Answered m (reportCall m .number) (reportCall m .report)
   pub factor : (m : Meter) → reportCall m .number ≡ 0 → ltZ (pos 0) (reportCall m .report .levels .factor .0) ≡ false
   -- and, as L4 goes on, "Refusals 15 and 16 are unaffected, since they depend on there being none": there is a highest crossing exactly where there is a
-  -- lowest; and where n, sq and a_0 are above 0 the report has levels, and not one of these two refusals, exactly where there is a lowest
+  -- lowest; and a report on any meter that 2 lets pass, with n, sq and a_0 above 0, has levels and not one of the two exactly where there is a lowest
   pub highest-lowest : (m : Meter) → ((j : ℕ) × Used m j) ↔ ((j : ℕ) × LowestCrossing m j)
   pub unaffected : (m : Meter) → impossible m ≡ false → Active m → (reportCall m .number ≡ 0) ↔ ((j : ℕ) × LowestCrossing m j)
   -- and, as his request L1 has it, "A larger F must never show a smaller percentage": of any two reports with levels

@@ -102,9 +102,9 @@ pub fn of_factor(random: &mut Random, code: u8, F: i64) -> Meter {
 /// A meter whose d_j waver around 0, so that it has many crossings, up to one at every j; in some
 /// the highest thresholds were never reached.
 ///
-/// No d_j is above 4096 or below -4096. So from one j to the next it falls by at most 8192, which
-/// it does where a_j stays the same; and a_0 is at most n, since with a d_0 of 0 its lev would be
-/// 4096 or more below that of n.
+/// Each d_j is drawn from -4096 to 4096, and is lower only where a_j cannot be small enough. So from
+/// one j to the next it falls by at most 8192, which it does where a_j stays the same; and a_0 is at
+/// most n, since with a d_0 of 0 its lev would be 4096 or more below that of n.
 pub fn wavering(random: &mut Random, code: u8) -> Meter {
     let bits = random.between(30, 48);
     let n = random.of_length(bits);

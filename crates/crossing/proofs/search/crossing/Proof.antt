@@ -1,4 +1,5 @@
--- The invariant: no crossing is above j, and there is one at j where d_(j−1) is above 0 and `below` says that d_j is below it.
+-- The invariant: no crossing is above j, and there is one at j where d_(j−1) is above 0 and `below` says that d_j is below it, which it says only
+-- where something was counted.
 use borrow.Author.Needs.{needs}
 use mathlib.Core.Bool.{Bool, true, false, cond, _&&_, and-false}
 use mathlib.Core.List.{List}
