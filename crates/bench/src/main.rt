@@ -1,8 +1,8 @@
 // The meter's side of the speed comparison. Standard input holds a rate code of one byte, a number of
 // rounds of two, a chunk's length of two (0 stands for 4096), an offset of two, and then at most 32768
-// samples, two bytes each: a meter opened at that code and offset takes the samples so many times over, in
-// chunks of that length, and its values are printed. Where less than these seven bytes come, the meter is
-// the one of all zeros.
+// samples, two bytes each: a meter opened at that code and offset, with the usual margin, takes the samples
+// so many times over, in chunks of that length, and its values are printed. Where less than these seven
+// bytes come, the meter is the one of all zeros.
 ghost use Prim.Native.Nat.{_<_};
 use input::Streams;
 use meter::Meter;
@@ -23,7 +23,7 @@ fn main() {
 // The meter after an input.
 fn measured(held: &[u8]) -> Meter {
     if held.len() < 7 {
-        return Meter::open(Setting { code: 0, offset: 0 }).meter;
+        return Meter::open(Setting::usual(0)).meter;
     }
     let mut offset = [0i16; 1];
     block::decode(&held[5..7], &mut offset);
@@ -31,9 +31,12 @@ fn measured(held: &[u8]) -> Meter {
     let mut samples = [0i16; 32768];
     block::decode(part, &mut samples);
     let count = block::least(part.len() / 2, 32768);
+    let usual = Setting::usual(block::one_byte(held, 0) as u32);
+    let margin = usual.margin;
     let fresh = Meter::open(Setting {
-        code: block::one_byte(held, 0) as u32,
+        code: usual.code,
         offset: offset[0],
+        margin,
     });
     repeated(
         fresh.meter,

@@ -24,11 +24,12 @@ use Rattle.sample.specs.declared.Counting.{Counting}
 use Rattle.sample.specs.Envelope.{smoothing}
 use Rattle.sample.specs.Sample.{mostSamples, freshState, stateAfter}
 use Rattle.meter.specs.declared.Meter.{Meter}
-use Rattle.meter.specs.Refusals.{unnamedCode, longChunk, wrongPlace, tooMany, openRules, chunkRules, blockCallRules}
+use Rattle.meter.specs.Refusals.{unnamedCode, wrongMargin, longChunk, wrongPlace, tooMany, openRules, chunkRules, blockCallRules}
 use Rattle.meter.specs.Calls.{fresh, countingOf, afterSamples, openCall, chunkCall, blockCall}
 use Rattle.meter.proofs.Laws.{open-given, chunk-given, block-given, opened}
 use Rattle.meter.proofs.Possible.{Possible, passes}
 use Rattle.exact.specs.Calls.{TypedOffset, Call, chunk, block, AllSamples, Typed, broughtBy}
+use Rattle.exact.specs.Demands.{exactAt}
 use Rattle.exact.specs.Exact.{E, startAt, start, takeAll, accepts, fed, exactly, answersOfE, took}
 use Rattle.exact.specs.Lists.{called, accepted, after, answers, taken}
 use Rattle.exact.proofs.Tied.{by, Tied, same-code, same-K, same-I, same-o, total, tied-samples, tied-fresh}
@@ -42,6 +43,7 @@ pub record Good (m : Meter) (e : E) : Type 0 where
   pub code : m .setting .code ≡ e .code
   pub offset : m .setting .offset ≡ e .o
   pub offset-fits : SFits w16 (e .o)
+  pub margin : wrongMargin (m .setting) ≡ false
   pub few : m .state .sums .n .0 ≤ mostSamples
   pub tied : Tied (rowOf (e .code) .d) (m .state) e
 
@@ -61,6 +63,7 @@ module _ (m : Meter) (e : E) (g : Good m e) where
       let t = g .tied in
       record {
         named = ap isNamed (g .code) ∙ g .named;
+        margin = g .margin;
         n-max = g .few;
         s-max = t .sum;
         sq-max = t .squares;
@@ -158,6 +161,7 @@ module _ (m : Meter) (e : E) (g : Good m e) where
         code = g .code ∙ sym (same-code xs e);
         offset = g .offset ∙ sym (same-o xs e);
         offset-fits = subst (SFits w16) (sym (same-o xs e)) (g .offset-fits);
+        margin = g .margin;
         few = subst (λ (n : ℕ). n ≤ mostSamples) (sym (tied-on .taken ∙ total xs e)) room;
         tied = subst (λ (c : ℕ). Tied (rowOf c .d) (stateAfter (countingOf (m .setting)) (m .state) xs) (takeAll e xs)) (sym (same-code xs e)) tied-on;
       }
@@ -240,23 +244,25 @@ same-samples (call ∷ calls) m e f g =
 
 -- ---- from the opening on
 
-named-by : (c : Setting) → openCall c .number ≡ 0 → isNamed (c .code) ≡ true
+-- neither 1 nor 17 applies to a setting that opening accepts
+accepted-setting : (c : Setting) → openCall c .number ≡ 0 → (isNamed (c .code) ≡ true) × (wrongMargin c ≡ false)
 unfolding NoneApplies openRules unnamedCode
-named-by c z = not-false _ (open-given c .0 .accepted .0 z .0)
+accepted-setting c z = let n = open-given c .0 .accepted .0 z in (not-false _ (n .0), n .1 .0)
 
-good-fresh : (c : Setting) → TypedOffset c → isNamed (c .code) ≡ true → Good (fresh c) (start c)
+good-fresh : (c : Setting) → TypedOffset c → (isNamed (c .code) ≡ true) × (wrongMargin c ≡ false) → Good (fresh c) (exactAt c)
 unfolding start startAt fresh iOf freshState
 good-fresh c t n =
     record {
-      named = n;
+      named = n .0;
       K-is = refl;
       I-is = refl;
       code = refl;
       offset = refl;
       offset-fits = t;
+      margin = n .1;
       few = zero-le;
       tied = tied-fresh (rowOf (c .code) .d) (c .code) (rowOf (c .code) .k) (rowOf (c .code) .i) (c .offset);
     }
 
-pub good-open : (c : Setting) → TypedOffset c → openCall c .number ≡ 0 → Good (openCall c .meter) (start c)
-good-open c t z = subst (λ (m : Meter). Good m (start c)) (sym (opened c z)) (good-fresh c t (named-by c z))
+pub good-open : (c : Setting) → TypedOffset c → openCall c .number ≡ 0 → Good (openCall c .meter) (exactAt c)
+good-open c t z = subst (λ (m : Meter). Good m (exactAt c)) (sym (opened c z)) (good-fresh c t (accepted-setting c z))

@@ -9,6 +9,7 @@ use Rattle.exact.specs.Demands.{Demand1, Demand2, Claim}
 use Rattle.exact.proofs.Crossings.{highest-lowest, unaffected}
 use Rattle.exact.proofs.Demand3.{demand3}
 use Rattle.exact.proofs.Lost.{nothing-lost, measured}
+use Rattle.exact.proofs.Margins.{any-margin}
 use Rattle.exact.proofs.NoOffset.{no-offset}
 
 demand1 : Demand1
@@ -36,6 +37,7 @@ demand2 =
       opened = λ c z. subst (Fresh c) (sym (opened c z)) (fresh-fields c);
       measured = measured;
       no-offset = no-offset;
+      any-margin = any-margin;
       worked-out = λ j l. worked-out j;
       reported = answered;
       factor = factor-never-above;

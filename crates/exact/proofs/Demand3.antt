@@ -15,12 +15,13 @@ use Rattle.meter.specs.declared.Meter.{Meter}
 use Rattle.meter.specs.declared.Report.{Report}
 use Rattle.meter.specs.Answered.{powerOf}
 use Rattle.meter.specs.Calls.{openCall, reportCall}
-use Rattle.meter.specs.Reports.{margin}
+use Rattle.meter.specs.Reports.{marginOf}
+use Rattle.meter.proofs.Range.{margin-range}
 use Rattle.meter.proofs.Laws.{Levels, with-levels, crossing-of}
 use Rattle.meter.proofs.Outcome.{answered}
 use Rattle.meter.proofs.Possible.{passes, falling}
 use Rattle.exact.specs.Calls.{TypedOffset, Call, Typed, broughtBy}
-use Rattle.exact.specs.Demands.{Opens, meterAfter, exactAfter, countAt, LevelBounds, Demand3}
+use Rattle.exact.specs.Demands.{Opens, meterAfter, exactAt, exactAfter, countAt, LevelBounds, Demand3}
 use Rattle.exact.specs.Exact.{E, start, startAt, takeAll, accepts, fed, exactly}
 use Rattle.exact.proofs.Calls.{Good, good-possible, good-after, good-open, same-answers, same-samples}
 use Rattle.exact.proofs.Lost.{exact-squares}
@@ -36,21 +37,21 @@ kept-code (call ∷ calls) e = kept-code calls (fed e call) ∙ go (accepts e ca
     go true = same-code (broughtBy call) e
     go false = refl
 
-start-code : (c : Setting) → start c .code ≡ c .code
+start-code : (c : Setting) → exactAt c .code ≡ c .code
 unfolding start startAt
 start-code c = refl
 
 -- ---- the levels
 
 module _ (m : Meter) (e : E) (g : Good m e) (r : Report) (L : Levels m r) where
-  cross : Crossed margin (powerOf m) (m .state .a) (L .j)
+  cross : Crossed (marginOf m) (powerOf m) (m .state .a) (L .j)
   cross = crossing-of m (good-possible m e g) (L .j) (L .used .crossing)
 
-  bounds : Bounded margin (twoWords (m .state .sums .sq)) (m .state .a) (L .j) (countAt e (threshold (cross .i))) (countAt e (threshold (L .j) + rowOf (e .code) .d))
+  bounds : Bounded (marginOf m) (twoWords (m .state .sums .sq)) (m .state .a) (L .j) (countAt e (threshold (cross .i))) (countAt e (threshold (L .j) + rowOf (e .code) .d))
   bounds =
       let at = L .used .crossing .place in
       let below : cross .i < thresholds = omega (arith, cross .reach) in
-      bounded margin (twoWords (m .state .sums .sq)) (m .state .a) (L .j) _ _ refl (L .sq-pos) (omega (arith, g .tied .squares, g .few)) cross
+      bounded (marginOf m) (twoWords (m .state .sums .sq)) (m .state .a) (L .j) _ _ (margin-range (m .setting) (g .margin) .above-zero) (L .sq-pos) (omega (arith, g .tied .squares, g .few)) cross
       (omega (arith, g .tied .each (cross .i) below .few, g .few)) (g .tied .each (cross .i) below .high .count) (g .tied .each (L .j) at .low .count)
 
   pub level-bounds : LevelBounds r e (rowOf (e .code) .d)
@@ -72,11 +73,11 @@ pub demand3 : (c : Setting) (calls : List Call) → TypedOffset c → Opens c �
 unfolding dOf
 demand3 c calls t z f =
     let first = good-open c t z in
-    let g = good-after calls (openCall c .meter) (start c) f first in
+    let g = good-after calls (openCall c .meter) (exactAt c) f first in
     let ok = passes _ (good-possible _ _ g) in
     record {
-      same-calls = same-answers calls (openCall c .meter) (start c) f first;
-      same-samples = same-samples calls (openCall c .meter) (start c) f first;
+      same-calls = same-answers calls (openCall c .meter) (exactAt c) f first;
+      same-samples = same-samples calls (openCall c .meter) (exactAt c) f first;
       exact-squares = exact-squares c calls;
       at-most = λ j l. g .tied .each j l .high .count;
       at-least = λ j l. subst (λ (k : ℕ). countAt (exactAfter c calls) (threshold j + rowOf k .d) ≤ activity (meterAfter c calls .state .a) j) code-is (g .tied .each j l .low .count);
@@ -87,4 +88,4 @@ demand3 c calls t z f =
     }
   where
     code-is : exactAfter c calls .code ≡ c .code
-    code-is = kept-code calls (start c) ∙ start-code c
+    code-is = kept-code calls (exactAt c) ∙ start-code c

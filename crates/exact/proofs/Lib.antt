@@ -5,5 +5,6 @@ pub mod Demand3
 mod Envelope
 pub mod Fractions
 pub mod Lost
+pub mod Margins
 pub mod NoOffset
 pub mod Tied

@@ -22,7 +22,7 @@ use Rattle.meter.specs.Calls.{fresh, countingOf, afterSamples}
 use Rattle.meter.proofs.Laws.{opened}
 use Rattle.meter.proofs.Possible.{passes}
 use Rattle.exact.specs.Calls.{TypedOffset, Call, Typed, broughtBy}
-use Rattle.exact.specs.Demands.{Opens, meterAfter, exactAfter, takenFrom, sum, sumOfSquares, NothingLost}
+use Rattle.exact.specs.Demands.{Opens, meterAfter, exactAt, exactAfter, takenFrom, sum, sumOfSquares, NothingLost}
 use Rattle.exact.specs.Exact.{E, start, startAt, distance, takeOne, takeAll, accepts, fed, exactly, took}
 use Rattle.exact.specs.Lists.{called, accepted, after, taken}
 use Rattle.exact.proofs.Calls.{good-possible, good-after, good-open, handed-meter}
@@ -89,9 +89,9 @@ unfolding takeAll takeOne distance sumOfSquares
 grown-exact [] e = omega arith
 grown-exact (x ∷ xs) e = omega (arith, grown-exact xs (takeOne e x))
 
-pub exact-squares : (c : Setting) (calls : List Call) → exactAfter c calls .sq ≡ sumOfSquares (c .offset) (took (start c) calls)
+pub exact-squares : (c : Setting) (calls : List Call) → exactAfter c calls .sq ≡ sumOfSquares (c .offset) (took (exactAt c) calls)
 unfolding start startAt
-exact-squares c calls = ap (λ (e : E). e .sq) (exactly-is calls (start c)) ∙ grown-exact (took (start c) calls) (start c) ∙ zero-add _
+exact-squares c calls = ap (λ (e : E). e .sq) (exactly-is calls (exactAt c)) ∙ grown-exact (took (exactAt c) calls) (exactAt c) ∙ zero-add _
 
 pub nothing-lost : (c : Setting) (calls : List Call) → TypedOffset c → Opens c → Typed calls → NothingLost c calls
 unfolding freshState countingOf

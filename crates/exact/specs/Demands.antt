@@ -49,9 +49,13 @@ answersTo c calls = answers (openCall c .meter) calls
 abbrev pub takenFrom : Setting → List Call → List ℤ
 takenFrom c calls = taken (openCall c .meter) calls
 
+-- E before the list: it is fed the code and the offset, and not the margin
+abbrev pub exactAt : Setting → E
+exactAt c = start (c .code) (c .offset)
+
 -- E after the same list, and its count at a threshold in units
 abbrev pub exactAfter : Setting → List Call → E
-exactAfter c calls = exactly (start c) calls
+exactAfter c calls = exactly (exactAt c) calls
 
 abbrev pub countAt : E → ℕ → ℕ
 countAt e c = e .u c
@@ -109,6 +113,11 @@ pub record LowestCrossing (m : Meter) (j : ℕ) : Type 0 where
   pub crossing : CrossingAt m j
   pub none-lower : (i : ℕ) → i < j → CrossingAt m i → ⊥
 
+-- two settings, the same calls accepted, and the same measurement after them
+pub record SameMeasurement (c c′ : Setting) (calls : List Call) : Type 0 where
+  pub answers : answersTo c′ calls ≡ answersTo c calls
+  pub state : meterAfter c′ calls .state ≡ meterAfter c calls .state
+
 pub record Demand2 : Type 0 where
   -- "sums, envelope, counts": opening gives the fresh meter, and after a list of calls the meter is the one that METHOD.md's formulas lead to over
   -- the accepted ones' samples, in order, however they were cut into calls
@@ -117,11 +126,15 @@ pub record Demand2 : Type 0 where
       → meterAfter c calls ≡ record { setting = c; state = stateAfter (countingOf c) (freshState (iOf c)) (takenFrom c calls) }
   -- and, as his request L2 has it, "With o = 0 every measurement from a fresh meter is today's"
   pub no-offset : NoOffset
+  -- and the margin, which his request L5 has "chosen at opening", is for reports alone: with one code and one offset, two settings that open take the
+  -- same calls and measure the same
+  pub any-margin : (c c′ : Setting) (calls : List Call) → TypedOffset c → Opens c → Opens c′ → Typed calls → c′ .code ≡ c .code → c′ .offset ≡ c .offset
+      → SameMeasurement c c′ calls
   -- and of the thresholds that these counts are of, as his request L3 has it, "that the j-th so worked out is c_j, for each j from 0 to 14". That the
   -- code gets them so is the contracts of `Band::lowest` and `next_threshold` in `sample`; that "no table in the library shall list them" is tested
   pub worked-out : (j : ℕ) → j < thresholds → workedOut j ≡ threshold j
   -- "crossing, levels and factor": a report on any meter that 2 lets pass is the one of METHOD.md, in which, as his request L4 has it, "the highest
-  -- crossing is used"; F is never above 0
+  -- crossing is used", by the meter's own margin, which the report carries with its mark; F is never above 0
   pub reported : (m : Meter) → impossible m ≡ false → Answered m (reportCall m .number) (reportCall m .report)
   pub factor : (m : Meter) → reportCall m .number ≡ 0 → ltZ (pos 0) (reportCall m .report .levels .factor .0) ≡ false
   -- and, as L4 goes on, "Refusals 15 and 16 are unaffected, since they depend on there being none": there is a highest crossing exactly where there is a
@@ -141,7 +154,7 @@ pub record Demand2 : Type 0 where
 
 -- ---- demand 3: "For every list of chunk calls and block calls, refused ones among them, from a fresh meter at any named rate"
 
--- the level clauses, of a report r: A is above 0; A plus two steps is above E's exact level at the lower threshold, and A less two steps below E's at
+-- the level clauses, of a report r: A is above 0, being at least the margin; A plus two steps is above E's exact level at the lower threshold, and A less two steps below E's at
 -- the upper threshold raised by D
 pub record LevelBounds (r : Report) (e : E) (D : ℕ) : Type 0 where
   pub A : ℕ
@@ -150,11 +163,12 @@ pub record LevelBounds (r : Report) (e : E) (D : ℕ) : Type 0 where
   pub plus-two : e .sq ^ 4096 < 2 ^ (A + 2) * countAt e (threshold (r .levels .lower)) ^ 4096
   pub less-two : 2 ^ A * countAt e (threshold (r .levels .upper) + D) ^ 4096 < 4 * e .sq ^ 4096
 
+-- after a list of calls from a setting that opening accepts, at whatever margin and offset
 pub record Demand3 (c : Setting) (calls : List Call) : Type 0 where
   -- "The meter accepts exactly the calls that E accepts", and so takes the samples that E takes; E adds up the squares of x − o over them
-  pub same-calls : answersTo c calls ≡ answersOfE (start c) calls
-  pub same-samples : takenFrom c calls ≡ took (start c) calls
-  pub exact-squares : exactAfter c calls .sq ≡ sumOfSquares (c .offset) (took (start c) calls)
+  pub same-calls : answersTo c calls ≡ answersOfE (exactAt c) calls
+  pub same-samples : takenFrom c calls ≡ took (exactAt c) calls
+  pub exact-squares : exactAfter c calls .sq ≡ sumOfSquares (c .offset) (took (exactAt c) calls)
   -- "Each activity count is at most E's count at that threshold, and at least E's count at the threshold raised by document 01's D"
   pub at-most : (j : ℕ) → j < thresholds → activity (meterAfter c calls .state .a) j ≤ countAt (exactAfter c calls) (threshold j)
   pub at-least : (j : ℕ) → j < thresholds → countAt (exactAfter c calls) (threshold j + dOf c) ≤ activity (meterAfter c calls .state .a) j

@@ -1,4 +1,4 @@
--- E, the plain machine of demand 3: METHOD.md, "The exact machine E". It is fed the rate code and the offset of the setting and the calls' arguments, and
+-- E, the plain machine of demand 3: METHOD.md, "The exact machine E". It is fed the rate code and the offset of the opening and the calls' arguments, and
 -- nothing of the meter.
 use mathlib.Core.Bool.{Bool, cond, _&&_}
 use mathlib.Core.List.{List, [], _∷_, _++_}
@@ -9,7 +9,6 @@ use lib.ListN.{length}
 use Rattle.rate.specs.Rates.{rowOf}
 use Rattle.block.specs.Block.{rateCode, count, before}
 use Rattle.block.specs.Refusals.{sound}
-use Rattle.setting.specs.declared.Setting.{Setting}
 use Rattle.exact.specs.Calls.{Call, chunk, block, broughtBy}
 
 -- the code with its K and I, the offset o, the total y, the fractions p = pn/(2^20)^y and q = qn/(2^20)^(y+1), for each threshold c in units a count u(c)
@@ -31,8 +30,8 @@ unfoldable pub startAt : (code K I : ℕ) (o : ℤ) → E
 startAt code K I o =
     record { code = code; K = K; I = I; o = o; y = 0; pn = 0; qn = 0; u = λ c. 0; v = λ c. I; sq = 0 }
 
-unfoldable pub start : Setting → E
-start c = startAt (c .code) (rowOf (c .code) .k) (rowOf (c .code) .i) (c .offset)
+unfoldable pub start : (code : ℕ) (o : ℤ) → E
+start code o = startAt code (rowOf code .k) (rowOf code .i) o
 
 -- |x − o|, which is all that a sample x is to E
 unfoldable pub distance : (o x : ℤ) → ℕ

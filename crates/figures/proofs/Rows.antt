@@ -20,9 +20,9 @@ use Rattle.meter.specs.Calls.{openCall, chunkCall, reportCall}
 use Rattle.meter.proofs.Laws.{percent-of}
 use Rattle.exact.specs.Demands.{countAt}
 use Rattle.exact.specs.Envelope.{envelopeAfter, exactEnvelopeAfter}
-use Rattle.figures.specs.Meters.{given, countsOf}
-use Rattle.figures.specs.Rows.{Shown, nothing, Values, Row, level, noLevel, percent, sampled, reported, refused, opened, handedIn, answered, checked, played, counted, needsTwo, needsD, sampledMeter, meterFrom, exactFrom, numbersOf, levelsOf, valuesOf, Holds, All}
-use Rattle.figures.proofs.Tests.{Test, via, _and_, is, isNot, unless, atMost, itself, _on_, Equality, sameNumber, sameInteger, sameList, sameOption}
+use Rattle.figures.specs.Meters.{countsOf}
+use Rattle.figures.specs.Rows.{Shown, nothing, Values, Row, level, noLevel, percent, sampled, reported, refused, opened, handedIn, answered, checked, played, counted, needsTwo, needsD, sampledMeter, meterFrom, exactFrom, numbersOf, shownBy, valuesOf, Holds, All}
+use Rattle.figures.proofs.Tests.{Test, via, _and_, is, isNot, unless, atMost, itself, _on_, Equality, sameNumber, sameInteger, sameAnswer, sameList, sameOption}
 
 -- the percentage of a factor, by its law: two logarithms beside lev(10000)
 abbrev percentage : (F : ℤ) (T : ℕ) → Test (percentOf F ≡ T)
@@ -33,18 +33,18 @@ percentage F T =
     and unless (eqb T whole) (isNot (notAbove F (T + 1))))
 
 -- what a report on a meter shows, and values, by their fields
-abbrev shown : (L A C F : ℤ) (lower upper T : ℕ) → Shown
-shown L A C F lower upper T = record { L = L; A = A; C = C; F = F; lower = lower; upper = upper; T = T }
+abbrev shown : (L A C F : ℤ) (lower upper T : ℕ) (M : ℤ) (mark : Bool) → Shown
+shown L A C F lower upper T M mark = record { L = L; A = A; C = C; F = F; lower = lower; upper = upper; T = T; M = M; mark = mark }
 
 abbrev reportedPercentage : (m : Meter) (T : ℕ) → Test (reportCall m .report .percent .0 ≡ T)
 reportedPercentage m T =
     via (λ h. sym (percent-only _ (percent-of m (h .0))) ∙ h .1)
     (sameNumber (reportCall m .number) 0 and percentage (reportCall m .report .levels .factor .0) T)
 
-unfoldable pub sameShown : (m : Meter) (y : Shown) → Test (reportCall m .report .percent .0 ≡ y .T) → Test (levelsOf (reportCall m .report) ≡ y)
-unfolding levelsOf
+unfoldable pub sameShown : (m : Meter) (y : Shown) → Test (reportCall m .report .percent .0 ≡ y .T) → Test (shownBy (reportCall m .report) ≡ y)
+unfolding shownBy
 sameShown m y samePercentage =
-    let x = levelsOf (reportCall m .report) in
+    let x = shownBy (reportCall m .report) in
     itself shown
     on sameInteger (x .L) (y .L)
     on sameInteger (x .A) (y .A)
@@ -53,15 +53,18 @@ sameShown m y samePercentage =
     on sameNumber (x .lower) (y .lower)
     on sameNumber (x .upper) (y .upper)
     on samePercentage
+    on sameInteger (x .M) (y .M)
+    on sameAnswer (x .mark) (y .mark)
 
-abbrev values : (code : ℕ) (offset : ℤ) (n : ℕ) (s : ℤ) (high low P Q : ℕ) (a h : List ℕ) → Values
-values code offset n s high low P Q a h = record { code = code; offset = offset; n = n; s = s; high = high; low = low; P = P; Q = Q; a = a; h = h }
+abbrev values : (code : ℕ) (offset margin : ℤ) (n : ℕ) (s : ℤ) (high low P Q : ℕ) (a h : List ℕ) → Values
+values code offset margin n s high low P Q a h = record { code = code; offset = offset; margin = margin; n = n; s = s; high = high; low = low; P = P; Q = Q; a = a; h = h }
 
 abbrev pub sameValues : Equality Values
 sameValues x y =
     itself values
     on sameNumber (x .code) (y .code)
     on sameInteger (x .offset) (y .offset)
+    on sameInteger (x .margin) (y .margin)
     on sameNumber (x .n) (y .n)
     on sameInteger (x .s) (y .s)
     on sameNumber (x .high) (y .high)
@@ -84,11 +87,8 @@ testOf (sampled c xs P Q a number) =
     and sameNumber (m .state .sums .q) Q
     and sameList sameNumber (countsOf m) a
     and sameNumber (reportCall m .number) number)
-testOf (reported n sq a r) =
-    let m = given n sq a in
-    sameNumber (reportCall m .number) 0 and sameShown m r (reportedPercentage m (r .T))
-testOf (refused n sq a number) =
-    let m = given n sq a in
+testOf (reported m r) = sameNumber (reportCall m .number) 0 and sameShown m r (reportedPercentage m (r .T))
+testOf (refused m number) =
     sameNumber (reportCall m .number) number and sameShown m nothing (sameNumber (reportCall m .report .percent .0) (nothing .T))
 testOf (opened c number) = sameNumber (openCall c .number) number
 testOf (handedIn m number) = sameNumber (chunkCall m [] .number) number

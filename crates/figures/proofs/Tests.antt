@@ -65,6 +65,12 @@ sameInteger (pos m) (negsuc n) = never
 sameInteger (negsuc m) (pos n) = never
 sameInteger (negsuc m) (negsuc n) = itself negsuc on sameNumber m n
 
+abbrev pub sameAnswer : Equality Bool
+sameAnswer true true = itself true
+sameAnswer true false = never
+sameAnswer false true = never
+sameAnswer false false = itself false
+
 module _ {A : Type 0} (same : Equality A) where
   abbrev pub sameList : Equality (List A)
   sameList [] [] = itself []

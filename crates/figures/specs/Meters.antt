@@ -4,41 +4,48 @@ use Prim.Native.Nat.{ℕ}
 use lib.IntN.{ℤ, pos}
 use lib.ListN.{replicate}
 use Rattle.level.specs.declared.Samples.{Samples}
-use Rattle.level.specs.Types.{samplesOf, thresholds, words}
+use Rattle.level.specs.Types.{samplesOf, stepsOf, thresholds, words}
 use Rattle.sample.specs.declared.State.{State}
 use Rattle.sample.specs.declared.Sums.{Sums}
 use Rattle.meter.specs.declared.Meter.{Meter}
 use Rattle.setting.specs.declared.Setting.{Setting}
+use Rattle.setting.specs.Settings.{usualSetting}
 use Rattle.meter.specs.Calls.{fresh}
 
--- the setting of a code and an offset; of a code without one; and the fresh meter of such a code
+-- the usual setting of a code, with another offset, and with another margin; and the fresh meter of a code
 abbrev pub offsetBy : (code : ℕ) (o : ℤ) → Setting
-offsetBy code o = record { code = code; offset = o }
+offsetBy code o = record { code = code; offset = o; margin = usualSetting code .margin }
 
-abbrev pub settingOf : ℕ → Setting
-settingOf code = offsetBy code (pos 0)
+abbrev pub marginBy : (code : ℕ) (M : ℤ) → Setting
+marginBy code M = record { code = code; offset = usualSetting code .offset; margin = stepsOf M }
 
 abbrev pub freshAt : ℕ → Meter
-freshAt code = fresh (settingOf code)
+freshAt code = fresh (usualSetting code)
 
--- a meter with n, sq and a, at code 2, all else zero
+-- a meter with n, sq and a, at code 2 and the usual margin, all else zero
 unfoldable pub given : (n sq : ℕ) → List ℕ → Meter
 given n sq a =
     record {
-      setting = settingOf 2;
+      setting = usualSetting 2;
       state = record { sums = record { n = samplesOf n; s = pos 0; sq = words sq; p = 0; q = 0 }; a = map samplesOf a; h = replicate thresholds 0 };
     }
 
--- a meter at code 2 after 1000 samples, all else zero: refusal 2 lets it pass
+-- one with n 1000, sq and every a_j being zero too: refusal 2 lets it pass
 abbrev pub plain : Meter
 plain = given 1000 0 (replicate thresholds 0)
 
 -- a meter with one of its fields another
+abbrev withSetting : Setting → Meter → Meter
+withSetting c m = record { setting = c; state = m .state }
+
 abbrev pub withCode : ℕ → Meter → Meter
-withCode code m = record { setting = offsetBy code (m .setting .offset); state = m .state }
+withCode code m = withSetting (record { code = code; offset = m .setting .offset; margin = m .setting .margin }) m
 
 abbrev pub withOffset : ℤ → Meter → Meter
-withOffset o m = record { setting = offsetBy (m .setting .code) o; state = m .state }
+withOffset o m = withSetting (record { code = m .setting .code; offset = o; margin = m .setting .margin }) m
+
+abbrev pub withMargin : ℤ → Meter → Meter
+withMargin M m = withSetting (record { code = m .setting .code; offset = m .setting .offset; margin = stepsOf M }) m
 
 abbrev withState : State → Meter → Meter
 withState x m = record { setting = m .setting; state = x }

@@ -1,4 +1,5 @@
 -- Rows of worked figures, and what each kind of row says.
+use mathlib.Core.Bool.{Bool, false}
 use mathlib.Core.List.{List, [], _∷_}
 use mathlib.Core.Option.{none, some}
 use mathlib.Core.Path.{_≡_}
@@ -19,9 +20,9 @@ use Rattle.exact.specs.Demands.{meterAfter, exactAfter, countAt}
 use Rattle.exact.specs.Envelope.{envelopeAfter, exactEnvelopeAfter}
 use Rattle.exact.specs.Exact.{E}
 use Rattle.exact.specs.Lists.{called}
-use Rattle.figures.specs.Meters.{given, countsOf}
+use Rattle.figures.specs.Meters.{countsOf}
 
--- the levels of a report, its thresholds and its percentage
+-- the levels of a report, its thresholds, its percentage, and the margin with its mark
 pub record Shown : Type 0 where
   pub L : ℤ
   pub A : ℤ
@@ -30,15 +31,18 @@ pub record Shown : Type 0 where
   pub lower : ℕ
   pub upper : ℕ
   pub T : ℕ
+  pub M : ℤ
+  pub mark : Bool
 
 -- what a refused report shows
 abbrev pub nothing : Shown
-nothing = record { L = pos 0; A = pos 0; C = pos 0; F = pos 0; lower = 0; upper = 0; T = 0 }
+nothing = record { L = pos 0; A = pos 0; C = pos 0; F = pos 0; lower = 0; upper = 0; T = 0; M = pos 0; mark = false }
 
 -- the values of a meter
 pub record Values : Type 0 where
   pub code : ℕ
   pub offset : ℤ
+  pub margin : ℤ
   pub n : ℕ
   pub s : ℤ
   pub high : ℕ
@@ -57,10 +61,10 @@ pub data Row : Type 0 where
   percent : (F : ℤ) (T : ℕ) → Row
   -- a fresh meter after samples has P, Q and activity counts a, and its report is answered with number
   sampled : Setting → (xs : List ℤ) (P Q : ℕ) (a : List ℕ) (number : ℕ) → Row
-  -- a meter handed in at code 2 with n, sq and a gets a report of these levels
-  reported : (n sq : ℕ) (a : List ℕ) → Shown → Row
-  -- a meter handed in at code 2 with n, sq and a is refused a report with number, and what the report shows is all zero
-  refused : (n sq : ℕ) (a : List ℕ) (number : ℕ) → Row
+  -- a meter handed in gets a report that shows this
+  reported : Meter → Shown → Row
+  -- a meter handed in is refused a report with number, and what the report shows is all zero
+  refused : Meter → (number : ℕ) → Row
   -- opening is answered with number
   opened : Setting → (number : ℕ) → Row
   -- a meter handed in, whole, with an empty chunk is answered with number
@@ -93,8 +97,8 @@ unfoldable pub numbersOf : Meter → List Call → List ℕ
 numbersOf m [] = []
 numbersOf m (call ∷ calls) = let got = called m call in got .number ∷ numbersOf (got .meter) calls
 
-unfoldable pub levelsOf : Report → Shown
-levelsOf r =
+unfoldable pub shownBy : Report → Shown
+shownBy r =
     record {
       L = r .levels .level .0;
       A = r .levels .active .0;
@@ -103,6 +107,8 @@ levelsOf r =
       lower = r .levels .lower;
       upper = r .levels .upper;
       T = r .percent .0;
+      M = r .margin .0;
+      mark = r .mark;
     }
 
 unfoldable pub valuesOf : Meter → Values
@@ -110,6 +116,7 @@ valuesOf m =
     record {
       code = m .setting .code;
       offset = m .setting .offset;
+      margin = m .setting .margin .0;
       n = m .state .sums .n .0;
       s = m .state .sums .s;
       high = m .state .sums .sq .high;
@@ -127,8 +134,8 @@ Holds (percent F T) = percentOf F ≡ T
 Holds (sampled c xs P Q a number) =
     let m = sampledMeter c xs in
     (m .state .sums .p ≡ P) × (m .state .sums .q ≡ Q) × (countsOf m ≡ a) × (reportCall m .number ≡ number)
-Holds (reported n sq a r) = (reportCall (given n sq a) .number ≡ 0) × (levelsOf (reportCall (given n sq a) .report) ≡ r)
-Holds (refused n sq a number) = (reportCall (given n sq a) .number ≡ number) × (levelsOf (reportCall (given n sq a) .report) ≡ nothing)
+Holds (reported m r) = (reportCall m .number ≡ 0) × (shownBy (reportCall m .report) ≡ r)
+Holds (refused m number) = (reportCall m .number ≡ number) × (shownBy (reportCall m .report) ≡ nothing)
 Holds (opened c number) = openCall c .number ≡ number
 Holds (handedIn m number) = chunkCall m [] .number ≡ number
 Holds (answered m calls numbers) = numbersOf m calls ≡ numbers

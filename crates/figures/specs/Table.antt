@@ -1,14 +1,17 @@
 -- The worked figures. Those of METHOD.md, "Worked figures", come first; then our own, for what those do not tell apart.
+use mathlib.Core.Bool.{true, false}
 use mathlib.Core.List.{List, [], _∷_, _++_}
 use Prim.Native.Nat.{ℕ, _+_, _-_, _*_, _^_}
 use lib.IntN.{ℤ, pos, negsuc}
 use lib.ListN.{replicate}
 use Rattle.sample.specs.Envelope.{threshold}
+use Rattle.setting.specs.Settings.{usualSetting}
+use Rattle.meter.specs.declared.Meter.{Meter}
 use Rattle.meter.specs.Calls.{openCall}
 use Rattle.exact.specs.Calls.{Call, chunk, block}
 use Rattle.figures.specs.Blocks.{soundBlock, fullBlock, endBlock, twenty, threeBytes, otherSum, highSum, otherWeighted, otherKind, otherCode, noCount, highCount, usedNext, usedLast}
-use Rattle.figures.specs.Meters.{offsetBy, settingOf, freshAt, plain, withCode, withOffset, withN, withS, withSq, withP, withQ, withA, withH}
-use Rattle.figures.specs.Rows.{Row, level, noLevel, percent, sampled, reported, refused, opened, handedIn, answered, checked, played, counted, needsTwo, needsD}
+use Rattle.figures.specs.Meters.{offsetBy, marginBy, freshAt, given, plain, withCode, withOffset, withMargin, withN, withS, withSq, withP, withQ, withA, withH}
+use Rattle.figures.specs.Rows.{Values, Row, level, noLevel, percent, sampled, reported, refused, opened, handedIn, answered, checked, played, counted, needsTwo, needsD}
 
 -- x for the first k of fifteen, 0 for the others
 abbrev first : (k x : ℕ) → List ℕ
@@ -18,7 +21,18 @@ first k x = replicate k x ++ replicate (15 - k) 0
 abbrev minus : ℕ → ℤ
 minus x = negsuc (x - 1)
 
--- 260 samples at code 1: loud ones, a refused block of three bytes, that block, and near silence in which hangovers run out
+-- the meters of two of the customer's rows: of his second report, and of the one that is refused with 15
+abbrev second : Meter
+second = given 16384 (2 ^ 30) (replicate 7 4096 ++ (2048 ∷ replicate 7 0))
+
+abbrev quiet : Meter
+quiet = given 32768 (2 ^ 20) (first 1 32768)
+
+-- the meter of all zeros
+abbrev zeros : Values
+zeros = record { code = 0; offset = pos 0; margin = pos 0; n = 0; s = pos 0; high = 0; low = 0; P = 0; Q = 0; a = first 0 0; h = first 0 0 }
+
+-- 260 samples at code 1: loud ones, a refused block of three bytes, a sound one of twenty samples, and near silence in which hangovers run out
 unfoldable pub run : List Call
 run =
     chunk (replicate 30 (pos 9000) ++ replicate 10 (minus 20000))
@@ -26,6 +40,23 @@ run =
     ∷ block twenty
     ∷ chunk (replicate 170 (pos 0) ++ replicate 30 (pos 300))
     ∷ []
+
+-- what it leaves without an offset, at a margin
+abbrev ran : (M : ℤ) → Values
+ran M =
+    record {
+      code = 1;
+      offset = pos 0;
+      margin = M;
+      n = 260;
+      s = minus 576360;
+      high = 0;
+      low = 27907536480;
+      P = 3869760806;
+      Q = 2445109210;
+      a = 260 ∷ 260 ∷ 260 ∷ 260 ∷ 260 ∷ 259 ∷ 258 ∷ 257 ∷ 256 ∷ 253 ∷ 249 ∷ 242 ∷ 229 ∷ 197 ∷ 146 ∷ [];
+      h = 0 ∷ 0 ∷ 0 ∷ 0 ∷ 0 ∷ 0 ∷ 0 ∷ 0 ∷ 65 ∷ 82 ∷ 99 ∷ 117 ∷ 136 ∷ 139 ∷ 139 ∷ [];
+    }
 
 -- calls to a fresh meter of code 1: the faults from 3 to 10, then a sound block, the same once more, and the longest chunk
 unfoldable pub faults : List Call
@@ -57,12 +88,13 @@ table =
     ∷ level 10 13606
     ∷ level (2 ^ 32 - 1) 131071
     ∷ level (2 ^ 78) 319488
-    ∷ sampled (settingOf 2) (pos 32767 ∷ []) 2285825920 9504509 (first 0 0) 14
-    ∷ sampled (settingOf 2) (minus 1 ∷ []) 69760 290 (first 0 0) 14
+    ∷ sampled (usualSetting 2) (pos 32767 ∷ []) 2285825920 9504509 (first 0 0) 14
+    ∷ sampled (usualSetting 2) (minus 1 ∷ []) 69760 290 (first 0 0) 14
     -- at an offset: the largest size that a sample can have, and a sample that is the offset
     ∷ played (offsetBy 2 (pos 32767)) (chunk (minus 32768 ∷ []) ∷ []) (record {
       code = 2;
       offset = pos 32767;
+      margin = pos 21635;
       n = 1;
       s = minus 32768;
       high = 0;
@@ -75,6 +107,7 @@ table =
     ∷ played (offsetBy 2 (minus 1)) (chunk (minus 1 ∷ []) ∷ []) (record {
       code = 2;
       offset = minus 1;
+      margin = pos 21635;
       n = 1;
       s = minus 1;
       high = 0;
@@ -91,10 +124,10 @@ table =
     ∷ percent (minus 4096) 5000
     ∷ percent (minus 54426) 1
     ∷ percent (minus 54427) 0
-    ∷ reported 16384 (2 ^ 30) (first 8 4096) (record { L = pos 65536; A = pos 73728; C = pos 52093; F = minus 8192; lower = 6; upper = 7; T = 2500 })
-    ∷ reported 16384 (2 ^ 30) (replicate 7 4096 ++ (2048 ∷ replicate 7 0)) (record { L = pos 65536; A = pos 76669; C = pos 55034; F = minus 11133; lower = 6; upper = 7; T = 1519 })
-    ∷ reported 32768 1275068 (first 1 32768) (record { L = pos 21635; A = pos 21635; C = pos 0; F = pos 0; lower = 0; upper = 0; T = 10000 })
-    ∷ refused 32768 (2 ^ 20) (first 1 32768) 15
+    ∷ reported (given 16384 (2 ^ 30) (first 8 4096)) (record { L = pos 65536; A = pos 73728; C = pos 52093; F = minus 8192; lower = 6; upper = 7; T = 2500; M = pos 21635; mark = false })
+    ∷ reported (given 16384 (2 ^ 30) (replicate 7 4096 ++ (2048 ∷ replicate 7 0))) (record { L = pos 65536; A = pos 76669; C = pos 55034; F = minus 11133; lower = 6; upper = 7; T = 1519; M = pos 21635; mark = false })
+    ∷ reported (given 32768 1275068 (first 1 32768)) (record { L = pos 21635; A = pos 21635; C = pos 0; F = pos 0; lower = 0; upper = 0; T = 10000; M = pos 21635; mark = false })
+    ∷ refused (given 32768 (2 ^ 20) (first 1 32768)) 15
     -- those of the customer's rows that he has run, not proved
     ∷ answered (withN (2 ^ 48) plain) (chunk (pos 1 ∷ []) ∷ chunk [] ∷ []) (11 ∷ 0 ∷ [])
     ∷ answered (freshAt 2) (chunk (replicate 4097 (pos 0)) ∷ chunk (replicate 4096 (pos 0)) ∷ []) (3 ∷ 0 ∷ [])
@@ -106,11 +139,12 @@ table =
     ∷ percent (pos (2 ^ 63 - 1)) 10000
     ∷ percent (minus (2 ^ 63)) 0
     -- the third rate
-    ∷ sampled (settingOf 3) (pos 32767 ∷ []) 1143961504 2380489 (first 0 0) 14
+    ∷ sampled (usualSetting 3) (pos 32767 ∷ []) 1143961504 2380489 (first 0 0) 14
     -- and the largest size the other way
     ∷ played (offsetBy 3 (minus 32768)) (chunk (pos 32767 ∷ []) ∷ []) (record {
       code = 3;
       offset = minus 32768;
+      margin = pos 21635;
       n = 1;
       s = pos 32767;
       high = 0;
@@ -121,27 +155,38 @@ table =
       h = replicate 15 3200;
     })
     -- a crossing at the last threshold
-    ∷ reported 16384 (2 ^ 44) (first 15 4096) (record { L = pos 122880; A = pos 131072; C = pos 109437; F = minus 8192; lower = 13; upper = 14; T = 2500 })
+    ∷ reported (given 16384 (2 ^ 44) (first 15 4096)) (record { L = pos 122880; A = pos 131072; C = pos 109437; F = minus 8192; lower = 13; upper = 14; T = 2500; M = pos 21635; mark = false })
     -- the largest sq that a report can meet
-    ∷ reported (2 ^ 48) (2 ^ 80) (first 15 (2 ^ 48)) (record { L = pos 131072; A = pos 131072; C = pos 109437; F = pos 0; lower = 13; upper = 14; T = 10000 })
+    ∷ reported (given (2 ^ 48) (2 ^ 80) (first 15 (2 ^ 48))) (record { L = pos 131072; A = pos 131072; C = pos 109437; F = pos 0; lower = 13; upper = 14; T = 10000; M = pos 21635; mark = false })
     -- the other refusals of a report
-    ∷ refused 1 (2 ^ 32 + 1) (first 0 0) 2
-    ∷ refused 0 0 (first 0 0) 12
-    ∷ refused 1 0 (first 0 0) 13
-    ∷ refused (2 ^ 40) (2 ^ 64) (first 0 0) 14
-    ∷ refused 16384 (2 ^ 40) (first 8 4096) 16
+    ∷ refused (given 1 (2 ^ 32 + 1) (first 0 0)) 2
+    ∷ refused (given 0 0 (first 0 0)) 12
+    ∷ refused (given 1 0 (first 0 0)) 13
+    ∷ refused (given (2 ^ 40) (2 ^ 64) (first 0 0)) 14
+    ∷ refused (given 16384 (2 ^ 40) (first 8 4096)) 16
     -- opening
-    ∷ opened (settingOf 0) 1
-    ∷ opened (settingOf 1) 0
-    ∷ opened (settingOf 2) 0
-    ∷ opened (settingOf 3) 0
-    ∷ opened (settingOf 4) 1
-    ∷ opened (settingOf 257) 1
+    ∷ opened (usualSetting 0) 1
+    ∷ opened (usualSetting 1) 0
+    ∷ opened (usualSetting 2) 0
+    ∷ opened (usualSetting 3) 0
+    ∷ opened (usualSetting 4) 1
+    ∷ opened (usualSetting 257) 1
     ∷ opened (offsetBy 1 (minus 32768)) 0
-    -- a refused opening keeps nothing, not even the offset
-    ∷ played (offsetBy 4 (pos 5)) [] (record {
-      code = 0;
+    -- the margin: each end of its range and the next number, −1, both ends of 64 bits, and 1 before 17
+    ∷ opened (marginBy 1 (pos 1)) 0
+    ∷ opened (marginBy 1 (pos 22314)) 0
+    ∷ opened (marginBy 1 (pos 0)) 17
+    ∷ opened (marginBy 1 (pos 22315)) 17
+    ∷ opened (marginBy 1 (minus 1)) 17
+    ∷ opened (marginBy 1 (minus (2 ^ 63))) 17
+    ∷ opened (marginBy 1 (pos (2 ^ 63 - 1))) 17
+    ∷ opened (marginBy 4 (pos 0)) 1
+    ∷ opened (marginBy 4 (pos 22315)) 1
+    -- an opening keeps its margin
+    ∷ played (marginBy 3 (pos 1)) [] (record {
+      code = 3;
       offset = pos 0;
+      margin = pos 1;
       n = 0;
       s = pos 0;
       high = 0;
@@ -149,14 +194,25 @@ table =
       P = 0;
       Q = 0;
       a = first 0 0;
-      h = first 0 0;
+      h = replicate 15 3200;
     })
+    -- a refused one keeps nothing, neither the offset nor the margin
+    ∷ played (marginBy 1 (pos 22315)) [] zeros
+    ∷ played (offsetBy 4 (pos 5)) [] zeros
     -- refusal 2: the code, and the meter beside a refused opening
     ∷ handedIn plain 0
     ∷ handedIn (withCode 0 plain) 2
     ∷ handedIn (withCode 4 plain) 2
     ∷ handedIn (withCode 257 plain) 2
-    ∷ handedIn (openCall (settingOf 4) .meter) 2
+    ∷ handedIn (openCall (usualSetting 4) .meter) 2
+    -- the margin
+    ∷ handedIn (withMargin (pos 1) plain) 0
+    ∷ handedIn (withMargin (pos 22314) plain) 0
+    ∷ handedIn (withMargin (pos 0) plain) 2
+    ∷ handedIn (withMargin (pos 22315) plain) 2
+    ∷ handedIn (withMargin (minus 1) plain) 2
+    ∷ handedIn (withMargin (minus (2 ^ 63)) plain) 2
+    ∷ handedIn (withMargin (pos (2 ^ 63 - 1)) plain) 2
     -- n > 2^48
     ∷ handedIn (withN (2 ^ 48) plain) 0
     ∷ handedIn (withN (2 ^ 48 + 1) plain) 2
@@ -206,6 +262,7 @@ table =
     -- the refusals of calls
     ∷ answered (freshAt 1) faults (3 ∷ 4 ∷ 5 ∷ 5 ∷ 5 ∷ 6 ∷ 7 ∷ 8 ∷ 8 ∷ 9 ∷ 9 ∷ 10 ∷ 0 ∷ 10 ∷ 0 ∷ [])
     ∷ answered (withCode 0 plain) (chunk (replicate 4097 (pos 0)) ∷ block threeBytes ∷ []) (2 ∷ 2 ∷ [])
+    ∷ answered (withMargin (pos 0) plain) (chunk (replicate 4097 (pos 0)) ∷ block threeBytes ∷ []) (2 ∷ 2 ∷ [])
     ∷ answered (withN (2 ^ 48 - 1) plain) (chunk (pos 1 ∷ pos 1 ∷ []) ∷ chunk (pos 1 ∷ []) ∷ chunk (pos 1 ∷ []) ∷ []) (11 ∷ 0 ∷ 11 ∷ [])
     ∷ answered (withCode 1 (withN (2 ^ 48) plain)) (chunk (replicate 4097 (pos 0)) ∷ block soundBlock ∷ block endBlock ∷ []) (3 ∷ 10 ∷ 11 ∷ [])
     -- the line host's check
@@ -227,43 +284,54 @@ table =
     ∷ checked usedNext 1 9
     ∷ checked usedLast 1 9
     -- Q reaches 2^30 exactly: ≥ against >
-    ∷ sampled (settingOf 1) (pos 9126 ∷ pos 11705 ∷ []) 16052775414 (2 ^ 30) (replicate 5 2 ++ (1 ∷ 1 ∷ replicate 8 0)) 16
+    ∷ sampled (usualSetting 1) (pos 9126 ∷ pos 11705 ∷ []) 16052775414 (2 ^ 30) (replicate 5 2 ++ (1 ∷ 1 ∷ replicate 8 0)) 16
     -- two crossings: the highest is used
-    ∷ reported (2 ^ 30) (2 ^ 40) (replicate 4 (2 ^ 30) ++ replicate 11 (2 ^ 14)) (record { L = pos 40960; A = pos 106496; C = pos 84861; F = minus 65536; lower = 10; upper = 11; T = 0 })
+    ∷ reported (given (2 ^ 30) (2 ^ 40) (replicate 4 (2 ^ 30) ++ replicate 11 (2 ^ 14))) (record { L = pos 40960; A = pos 106496; C = pos 84861; F = minus 65536; lower = 10; upper = 11; T = 0; M = pos 21635; mark = false })
     -- three crossings, each interpolated; and four, the highest where a single sample counted
-    ∷ reported (2 ^ 20) (2 ^ 26) (2 ^ 20 ∷ 2 ^ 19 ∷ 2 ^ 16 ∷ 2 ^ 15 ∷ 2 ^ 12 ∷ replicate 10 (2 ^ 11)) (record { L = pos 24576; A = pos 60285; C = pos 38650; F = minus 35709; lower = 4; upper = 5; T = 23 })
-    ∷ reported 8192 (2 ^ 23) (replicate 4 8192 ++ (512 ∷ 512 ∷ 32 ∷ 32 ∷ replicate 7 1)) (record { L = pos 40960; A = pos 94208; C = pos 72573; F = minus 53248; lower = 8; upper = 9; T = 1 })
+    ∷ reported (given (2 ^ 20) (2 ^ 26) (2 ^ 20 ∷ 2 ^ 19 ∷ 2 ^ 16 ∷ 2 ^ 15 ∷ 2 ^ 12 ∷ replicate 10 (2 ^ 11))) (record { L = pos 24576; A = pos 60285; C = pos 38650; F = minus 35709; lower = 4; upper = 5; T = 23; M = pos 21635; mark = false })
+    ∷ reported (given 8192 (2 ^ 23) (replicate 4 8192 ++ (512 ∷ 512 ∷ 32 ∷ 32 ∷ replicate 7 1))) (record { L = pos 40960; A = pos 94208; C = pos 72573; F = minus 53248; lower = 8; upper = 9; T = 1; M = pos 21635; mark = false })
     -- d is 0 at the higher of two crossings; and at the lower
-    ∷ reported (2 ^ 30) (1275068 * 2 ^ 20) (replicate 4 (2 ^ 30) ++ replicate 11 (2 ^ 19)) (record { L = pos 42115; A = pos 87171; C = pos 65536; F = minus 45056; lower = 8; upper = 8; T = 4 })
-    ∷ reported (2 ^ 31) (1275068 * 2 ^ 20) (replicate 4 (2 ^ 31) ++ replicate 11 (2 ^ 20)) (record { L = pos 38019; A = pos 83075; C = pos 61440; F = minus 45056; lower = 7; upper = 8; T = 4 })
+    ∷ reported (given (2 ^ 30) (1275068 * 2 ^ 20) (replicate 4 (2 ^ 30) ++ replicate 11 (2 ^ 19))) (record { L = pos 42115; A = pos 87171; C = pos 65536; F = minus 45056; lower = 8; upper = 8; T = 4; M = pos 21635; mark = false })
+    ∷ reported (given (2 ^ 31) (1275068 * 2 ^ 20) (replicate 4 (2 ^ 31) ++ replicate 11 (2 ^ 20))) (record { L = pos 38019; A = pos 83075; C = pos 61440; F = minus 45056; lower = 7; upper = 8; T = 4; M = pos 21635; mark = false })
     -- above the crossing d turns upwards, and stays above 0; below it, d_0 being below 0; and with no crossing
-    ∷ reported (2 ^ 30) (2 ^ 40) (replicate 4 (2 ^ 30) ++ replicate 11 64) (record { L = pos 40960; A = pos 40960; C = pos 19325; F = pos 0; lower = 2; upper = 3; T = 10000 })
-    ∷ reported (2 ^ 30) (2 ^ 34) (2 ^ 30 ∷ replicate 14 (2 ^ 26)) (record { L = pos 16384; A = pos 32768; C = pos 11133; F = minus 16384; lower = 1; upper = 2; T = 625 })
-    ∷ refused 65536 (2 ^ 21) (65536 ∷ 32 ∷ replicate 13 0) 15
-    -- the interpolation rounds down
-    ∷ reported 16384 (2 ^ 30) (replicate 7 4096 ++ (3000 ∷ replicate 7 0)) (record { L = pos 65536; A = pos 74580; C = pos 52945; F = minus 9044; lower = 6; upper = 7; T = 2164 })
+    ∷ reported (given (2 ^ 30) (2 ^ 40) (replicate 4 (2 ^ 30) ++ replicate 11 64)) (record { L = pos 40960; A = pos 40960; C = pos 19325; F = pos 0; lower = 2; upper = 3; T = 10000; M = pos 21635; mark = false })
+    ∷ reported (given (2 ^ 30) (2 ^ 34) (2 ^ 30 ∷ replicate 14 (2 ^ 26))) (record { L = pos 16384; A = pos 32768; C = pos 11133; F = minus 16384; lower = 1; upper = 2; T = 625; M = pos 21635; mark = false })
+    ∷ refused (given 65536 (2 ^ 21) (65536 ∷ 32 ∷ replicate 13 0)) 15
+    -- the customer's second report at other margins: the mark's two sides, the largest, and those past both ends of the range
+    ∷ reported (withMargin (pos 20954) second) (record { L = pos 65536; A = pos 77350; C = pos 56396; F = minus 11814; lower = 6; upper = 7; T = 1354; M = pos 20954; mark = true })
+    ∷ reported (withMargin (pos 20955) second) (record { L = pos 65536; A = pos 77349; C = pos 56394; F = minus 11813; lower = 6; upper = 7; T = 1354; M = pos 20955; mark = false })
+    ∷ reported (withMargin (pos 22314) second) (record { L = pos 65536; A = pos 75990; C = pos 53676; F = minus 10454; lower = 6; upper = 7; T = 1705; M = pos 22314; mark = false })
+    ∷ refused (withMargin (pos 22315) second) 2
+    ∷ refused (withMargin (pos 0) second) 2
+    -- the smallest margin: a high threshold is picked; and the smallest active level that there can be
+    ∷ reported (withMargin (pos 1) (given 16384 (2 ^ 30) (replicate 8 4096 ++ (2900 ∷ 2400 ∷ 1500 ∷ replicate 4 0)))) (record { L = pos 65536; A = pos 78507; C = pos 78506; F = minus 12971; lower = 9; upper = 10; T = 1113; M = pos 1; mark = true })
+    ∷ reported (withMargin (pos 1) (given 4096 4097 (first 1 4096))) (record { L = pos 1; A = pos 1; C = pos 0; F = pos 0; lower = 0; upper = 0; T = 10000; M = pos 1; mark = true })
+    -- the margin is tested before n
+    ∷ refused (withMargin (pos 0) (given 0 0 (first 0 0))) 2
+    -- the customer's 15 at a smaller margin: a level at one margin alone, 15 at the next larger and 16 at the next smaller
+    ∷ refused (withMargin (pos 20481) quiet) 15
+    ∷ reported (withMargin (pos 20480) quiet) (record { L = pos 20480; A = pos 20480; C = pos 0; F = pos 0; lower = 0; upper = 0; T = 10000; M = pos 20480; mark = true })
+    ∷ refused (withMargin (pos 20479) quiet) 16
+    -- two crossings with d at 0, of which the higher is used
+    ∷ reported (withMargin (pos 16384) (given (2 ^ 30) (2 ^ 40) (replicate 4 (2 ^ 30) ++ replicate 11 (2 ^ 14)))) (record { L = pos 40960; A = pos 106496; C = pos 90112; F = minus 65536; lower = 11; upper = 11; T = 0; M = pos 16384; mark = true })
+    -- the interpolation rounds down, at two margins
+    ∷ reported (withMargin (pos 20955) (given 16384 (2 ^ 30) (replicate 7 4096 ++ (3000 ∷ replicate 7 0)))) (record { L = pos 65536; A = pos 74777; C = pos 53822; F = minus 9241; lower = 6; upper = 7; T = 2093; M = pos 20955; mark = false })
+    ∷ reported (given 16384 (2 ^ 30) (replicate 7 4096 ++ (3000 ∷ replicate 7 0))) (record { L = pos 65536; A = pos 74580; C = pos 52945; F = minus 9044; lower = 6; upper = 7; T = 2164; M = pos 21635; mark = false })
     -- the meter and E over a run of calls
-    ∷ played (settingOf 1) run (record {
-      code = 1;
-      offset = pos 0;
-      n = 260;
-      s = minus 576360;
-      high = 0;
-      low = 27907536480;
-      P = 3869760806;
-      Q = 2445109210;
-      a = 260 ∷ 260 ∷ 260 ∷ 260 ∷ 260 ∷ 259 ∷ 258 ∷ 257 ∷ 256 ∷ 253 ∷ 249 ∷ 242 ∷ 229 ∷ 197 ∷ 146 ∷ [];
-      h = 0 ∷ 0 ∷ 0 ∷ 0 ∷ 0 ∷ 0 ∷ 0 ∷ 0 ∷ 65 ∷ 82 ∷ 99 ∷ 117 ∷ 136 ∷ 139 ∷ 139 ∷ [];
-    })
-    ∷ counted (settingOf 1) run (threshold 6) 258
-    ∷ counted (settingOf 1) run (threshold 12) 229
-    ∷ counted (settingOf 1) run (threshold 13) 197
-    ∷ counted (settingOf 1) run (threshold 13 + 43) 197
-    ∷ counted (settingOf 1) run (threshold 14) 146
+    ∷ played (usualSetting 1) run (ran (pos 21635))
+    ∷ counted (usualSetting 1) run (threshold 6) 258
+    ∷ counted (usualSetting 1) run (threshold 12) 229
+    ∷ counted (usualSetting 1) run (threshold 13) 197
+    ∷ counted (usualSetting 1) run (threshold 13 + 43) 197
+    ∷ counted (usualSetting 1) run (threshold 14) 146
+    -- and at another margin, which changes nothing but itself
+    ∷ played (marginBy 1 (pos 1)) run (ran (pos 1))
+    ∷ counted (marginBy 1 (pos 1)) run (threshold 13) 197
     -- and at an offset, over the same calls
     ∷ played (offsetBy 1 (pos 300)) run (record {
       code = 1;
       offset = pos 300;
+      margin = pos 21635;
       n = 260;
       s = minus 576360;
       high = 0;
@@ -277,7 +345,7 @@ table =
     ∷ counted (offsetBy 1 (pos 300)) run (threshold 13) 198
     ∷ counted (offsetBy 1 (pos 300)) run (threshold 14 + 43) 147
     -- the two steps of demand 3's level clause
-    ∷ needsTwo (settingOf 1) (chunk (replicate 44 (pos 5215) ++ (pos 5243 ∷ pos 5256 ∷ pos 5205 ∷ pos 5187 ∷ [])) ∷ []) 103555
+    ∷ needsTwo (usualSetting 1) (chunk (replicate 44 (pos 5215) ++ (pos 5243 ∷ pos 5256 ∷ pos 5205 ∷ pos 5187 ∷ [])) ∷ []) 103555
     -- D less one is too small
-    ∷ needsD (settingOf 1) (replicate 500 (pos 1) ++ (pos 31417 ∷ [])) 1175933558
+    ∷ needsD (usualSetting 1) (replicate 500 (pos 1) ++ (pos 31417 ∷ [])) 1175933558
     ∷ []

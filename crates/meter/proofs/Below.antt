@@ -10,7 +10,7 @@ use native.Mathlib.Omega.{arith}
 use lib.Dec.{T}
 use Rattle.meter.specs.Refusals.{anyOf, someBelow}
 
-neither : (x y : Bool) → x || y ≡ false → (x ≡ false) × (y ≡ false)
+pub neither : (x y : Bool) → x || y ≡ false → (x ≡ false) × (y ≡ false)
 neither true y h = absurd (subst T h tt)
 neither false y h = (refl, h)
 

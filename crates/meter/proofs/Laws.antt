@@ -30,7 +30,7 @@ use Rattle.meter.specs.Answered.{powerOf, CrossingAt, Used, ReportAt, Al
 use Rattle.meter.specs.Calls.{fresh, zeroMeter, afterSamples, openCall, chunkCall, blockCall, reportCall}
 use Rattle.meter.specs.Opened.{Fresh, Zeros}
 use Rattle.meter.specs.Refusals.{unnamedCode, anyOf, impossible, longChunk, tooMany, openRules, chunkRules, blockCallRules}
-use Rattle.meter.specs.Reports.{margin, reportRules}
+use Rattle.meter.specs.Reports.{marginOf, reportRules}
 use Rattle.meter.proofs.Outcome.{zero-report, answered}
 use Rattle.meter.proofs.Possible.{Possible, possible, falling}
 
@@ -200,9 +200,9 @@ levels-exist m ok e =
     }
 
 -- what is known of a crossing of a possible meter
-pub crossing-of : (m : Meter) → Possible m → (j : ℕ) → CrossingAt m j → Crossed margin (powerOf m) (m .state .a) j
+pub crossing-of : (m : Meter) → Possible m → (j : ℕ) → CrossingAt m j → Crossed (marginOf m) (powerOf m) (m .state .a) j
 crossing-of m p j c =
-    crossed margin (powerOf m) (m .state .a) j (c .crosses)
+    crossed (marginOf m) (powerOf m) (m .state .a) j (c .crosses)
     (λ h. falling m p (j - 1) j (omega arith) (c .place))
     (omega (arith, p .a-max (j - 1) (omega (arith, c .place)), p .n-max))
 
@@ -229,5 +229,5 @@ factor-never-above m z =
     let c = crossing-of m p (L .j) (L .used .crossing) in
     ap (ltZ (pos 0)) (L .report .F)
     ∙ ap₂ (λ (y x : ℤ). ltZ (pos 0) (y -ℤ x)) (L .report .L) (L .report .A)
-    ∙ factor margin (powerOf m) (m .state .sums .n .0) (m .state .a) (L .j) c
+    ∙ factor (marginOf m) (powerOf m) (m .state .sums .n .0) (m .state .a) (L .j) c
     (p .a-max (c .i) (omega (arith, c .reach, L .used .crossing .place))) (omega (arith, p .n-max))

@@ -3,5 +3,6 @@ mod Blocks
 mod Finding
 mod Handing
 pub mod Laws
+pub mod Range
 pub mod Possible
 pub mod Outcome

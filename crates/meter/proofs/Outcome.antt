@@ -26,7 +26,7 @@ use Rattle.meter.specs.Answered.{powerOf, CrossingAt, Used, ReportAt, Al
 use Rattle.meter.specs.Calls.{HandedReport, reportCall}
 use Rattle.meter.specs.Inner.{refusedReport, reportedWith}
 use Rattle.meter.specs.Refusals.{impossible}
-use Rattle.meter.specs.Reports.{margin, isNone, crossingOf, firstOfMeter, noSamples, noSignal, noActivity, levelBelow, levelAbove, reportRules, noReport, reportWith, reportAt, reportFor}
+use Rattle.meter.specs.Reports.{marginOf, isNone, crossingOf, firstOfMeter, noSamples, noSignal, noActivity, levelBelow, levelAbove, reportRules, noReport, reportWith, reportAt, reportFor}
 
 -- a refused report
 pub no-report : (k : ℕ) (m : Meter) → 0 < k → k ≡ firstOf (reportRules m) → refusedReport k m ≡ reportCall m
@@ -49,7 +49,7 @@ first-crosses M S a p z = simp (lt-ltb 0 (activity a 0) p, z)
 
 -- whether there is a crossing of the meter at a place
 abbrev pub crosses : Meter → ℕ → Bool
-crosses m = isCrossing margin (powerOf m) (m .state .a)
+crosses m = isCrossing (marginOf m) (powerOf m) (m .state .a)
 
 pub no-crossing : (m : Meter) (j : ℕ) → crosses m j ≡ false → CrossingAt m j → ⊥
 no-crossing m j e c = absurd (true≢false (sym (c .crosses) ∙ e))
@@ -113,7 +113,7 @@ module _ (m : Meter) (t : Tested m) where
     where
       go : (b : Bool) → ltZ (pos 0) (firstOfMeter m) ≡ b → b ≡ true
       go true p = refl
-      go false p = absurd (nowhere e 0 (record { place = omega arith; crosses = first-crosses margin (powerOf m) (m .state .a) a-above (signs (firstOfMeter m) b p) }))
+      go false p = absurd (nowhere e 0 (record { place = omega arith; crosses = first-crosses (marginOf m) (powerOf m) (m .state .a) a-above (signs (firstOfMeter m) b p) }))
 
   pub at-15 : crossingOf m ≡ none → ltZ (firstOfMeter m) (pos 0) ≡ true → refusedReport 15 m ≡ reportCall m
   at-15 e b = no-report 15 m (omega arith) (four 15 (here 15 (levelBelow m) _ (below-is none e ∙ b)))
@@ -122,7 +122,7 @@ module _ (m : Meter) (t : Tested m) where
   at-16 e b =
       no-report 16 m (omega arith) (four 16 (past 15 (levelBelow m) _ (below-is none e ∙ b) (here 16 (levelAbove m) _ (above-is none e ∙ above-zero e b))))
 
-  pub at-0 : (j : ℕ) → crossingOf m ≡ some j → reportedWith (levelsAt margin (m .state .sums .n .0) (twoWords (m .state .sums .sq)) (m .state .a) j) m ≡ reportCall m
+  pub at-0 : (j : ℕ) → crossingOf m ≡ some j → reportedWith (levelsAt (marginOf m) (m .state .sums .n .0) (twoWords (m .state .sums .sq)) (m .state .a) j) m ≡ reportCall m
   unfolding reportedWith reportCall reportFor reportAt
   at-0 j e =
       ap (λ (r : ℕ). record { number = r; meter = m; report = cond (eqb r 0) (reportAt m j) noReport })
@@ -138,12 +138,12 @@ module _ (m : Meter) (t : Tested m) where
 pub zero-report : AllZero noReport
 unfolding noReport noLevels words listFrom
 zero-report =
-    record { n = refl; s = refl; high = refl; low = refl; a = refl; L = refl; A = refl; C = refl; F = refl; lower = refl; upper = refl; T = refl }
+    record { n = refl; s = refl; high = refl; low = refl; a = refl; L = refl; A = refl; C = refl; F = refl; lower = refl; upper = refl; T = refl; M = refl; mark = refl }
 
 at-crossing : (m : Meter) (j : ℕ) → ReportAt m j (reportAt m j)
 unfolding reportAt reportWith levelsAt
 at-crossing m j =
-    record { n = refl; s = refl; sq = refl; a = refl; L = refl; A = refl; C = refl; F = refl; lower = refl; upper = refl; T = percent-is _ }
+    record { n = refl; s = refl; sq = refl; a = refl; L = refl; A = refl; C = refl; F = refl; lower = refl; upper = refl; T = percent-is _; M = refl; mark = refl }
 
 -- what is answered, read off what a report call hands back
 abbrev Reads : Meter → HandedReport → Type 0

@@ -14,11 +14,12 @@ use Rattle.rate.specs.Rates.{isNamed}
 use Rattle.sample.specs.Sample.{mostSamples}
 use Rattle.setting.specs.Settings.{iOf}
 use Rattle.meter.specs.declared.Meter.{Meter}
-use Rattle.meter.specs.Refusals.{sumBound, squareBound, envelopeBound, unnamedCode, manySamples, largeSum, largeSquares, largeP, largeQ, impossibleSums, longHangover, largeCount, risingCount, fallingHangover, impossibleCounter, impossible}
+use Rattle.meter.specs.Refusals.{sumBound, squareBound, envelopeBound, unnamedCode, wrongMargin, manySamples, largeSum, largeSquares, largeP, largeQ, impossibleSums, longHangover, largeCount, risingCount, fallingHangover, impossibleCounter, impossible}
 use Rattle.meter.proofs.Below.{NoneOf, none-of, of-none, none-below, each-below}
 
 pub record Possible (m : Meter) : Type 0 where
   pub named : isNamed (m .setting .code) ≡ true
+  pub margin : wrongMargin (m .setting) ≡ false
   pub n-max : m .state .sums .n .0 ≤ mostSamples
   pub s-max : natAbs (m .state .sums .s) ≤ m .state .sums .n .0 * sumBound
   pub sq-max : twoWords (m .state .sums .sq) ≤ m .state .sums .n .0 * squareBound
@@ -52,11 +53,14 @@ passes m p =
     of-none _ (
       ap not (p .named),
       (
-        of-none _ (le-ltb _ _ (p .n-max), (le-ltb _ _ (p .s-max), (le-ltb _ _ (p .sq-max), (le-ltb _ _ (p .p-max), (le-ltb _ _ (p .q-max), tt))))),
+        p .margin,
         (
-          none-below thresholds _ (λ j l.
-              of-none _ (le-ltb _ _ (p .h-max j l), (le-ltb _ _ (p .a-max j l), (ordered j _ _ (p .a-falls j), (ordered j _ _ (p .h-rises j), tt))))),
-          tt,
+          of-none _ (le-ltb _ _ (p .n-max), (le-ltb _ _ (p .s-max), (le-ltb _ _ (p .sq-max), (le-ltb _ _ (p .p-max), (le-ltb _ _ (p .q-max), tt))))),
+          (
+            none-below thresholds _ (λ j l.
+                of-none _ (le-ltb _ _ (p .h-max j l), (le-ltb _ _ (p .a-max j l), (ordered j _ _ (p .a-falls j), (ordered j _ _ (p .h-rises j), tt))))),
+            tt,
+          ),
         ),
       ),
     )
@@ -65,10 +69,11 @@ pub possible : (m : Meter) → impossible m ≡ false → Possible m
 unfolding impossible unnamedCode impossibleSums manySamples largeSum largeSquares largeP largeQ impossibleCounter longHangover largeCount risingCount fallingHangover NoneOf counter
 possible m h =
     let n = none-of _ h in
-    let s = none-of _ (n .1 .0) in
-    let c : (j : ℕ) → j < thresholds → NoneOf (counter m j) = λ j l. none-of _ (each-below thresholds _ (n .1 .1 .0) j l) in
+    let s = none-of _ (n .1 .1 .0) in
+    let c : (j : ℕ) → j < thresholds → NoneOf (counter m j) = λ j l. none-of _ (each-below thresholds _ (n .1 .1 .1 .0) j l) in
     record {
       named = not-false _ (n .0);
+      margin = n .1 .0;
       n-max = ltb-false _ _ (s .0);
       s-max = ltb-false _ _ (s .1 .0);
       sq-max = ltb-false _ _ (s .1 .1 .0);

@@ -1,6 +1,6 @@
 -- The report on a meter, as a relation between the meter and what is answered: "The report" and "Why a call is refused". It says what is
 -- reported, and nothing of how a crossing is searched for.
-use mathlib.Core.Bool.{true}
+use mathlib.Core.Bool.{true, false}
 use mathlib.Core.Path.{_≡_}
 use Prim.Native.Nat.{ℕ, _<_}
 use lib.IntN.{ℤ, pos, _-ℤ_}
@@ -13,19 +13,19 @@ use Rattle.crossing.specs.Crossing.{isCrossing, lowerOf, upperOf, activeLevel}
 use Rattle.percent.specs.Percent.{IsPercent}
 use Rattle.meter.specs.declared.Meter.{Meter}
 use Rattle.meter.specs.declared.Report.{Report}
-use Rattle.meter.specs.Reports.{margin}
+use Rattle.meter.specs.Reports.{marginOf, isMarked}
 
 -- lev(sq), and d_0
 abbrev pub powerOf : Meter → ℤ
 powerOf m = pos (lev (twoWords (m .state .sums .sq)))
 
 abbrev pub lowestExcess : Meter → ℤ
-lowestExcess m = excess margin (powerOf m) (m .state .a) 0
+lowestExcess m = excess (marginOf m) (powerOf m) (m .state .a) 0
 
 -- there is a crossing at j
 pub record CrossingAt (m : Meter) (j : ℕ) : Type 0 where
   pub place : j < thresholds
-  pub crosses : isCrossing margin (powerOf m) (m .state .a) j ≡ true
+  pub crosses : isCrossing (marginOf m) (powerOf m) (m .state .a) j ≡ true
 
 -- the crossing that is used: there is none at a higher place
 pub record Used (m : Meter) (j : ℕ) : Type 0 where
@@ -39,12 +39,14 @@ pub record ReportAt (m : Meter) (j : ℕ) (r : Report) : Type 0 where
   pub sq : twoWords (r .sq) ≡ twoWords (m .state .sums .sq)
   pub a : r .a ≡ m .state .a
   pub L : r .levels .level .0 ≡ longTerm (powerOf m) (m .state .sums .n .0)
-  pub A : r .levels .active .0 ≡ activeLevel margin (powerOf m) (m .state .a) j
-  pub C : r .levels .threshold .0 ≡ r .levels .active .0 -ℤ margin
+  pub A : r .levels .active .0 ≡ activeLevel (marginOf m) (powerOf m) (m .state .a) j
+  pub C : r .levels .threshold .0 ≡ r .levels .active .0 -ℤ marginOf m
   pub F : r .levels .factor .0 ≡ r .levels .level .0 -ℤ r .levels .active .0
-  pub lower : r .levels .lower ≡ lowerOf margin (powerOf m) (m .state .a) j
+  pub lower : r .levels .lower ≡ lowerOf (marginOf m) (powerOf m) (m .state .a) j
   pub upper : r .levels .upper ≡ upperOf j
   pub T : IsPercent (r .levels .factor .0) (r .percent .0)
+  pub M : r .margin .0 ≡ marginOf m
+  pub mark : r .mark ≡ isMarked (r .margin .0)
 
 -- where a report would stand, all its fields are zero
 pub record AllZero (r : Report) : Type 0 where
@@ -60,6 +62,8 @@ pub record AllZero (r : Report) : Type 0 where
   pub lower : r .levels .lower ≡ 0
   pub upper : r .levels .upper ≡ 0
   pub T : r .percent .0 ≡ 0
+  pub M : r .margin .0 ≡ pos 0
+  pub mark : r .mark ≡ false
 
 -- something was measured: n, sq and a_0 are above 0
 pub record Active (m : Meter) : Type 0 where

@@ -4,6 +4,7 @@ use mathlib.Core.List.{List}
 use Prim.Native.Nat.{ℕ}
 use lib.Dec.{eqb}
 use lib.IntN.{ℤ, pos}
+use Rattle.level.specs.Types.{stepsOf}
 use Rattle.refusal.specs.First.{firstOf}
 use Rattle.block.specs.Block.{samplesIn}
 use Rattle.refusal.specs.Number.{numberGiven}
@@ -42,7 +43,7 @@ fresh c = record { setting = c; state = freshState (iOf c) }
 
 -- the meter of all zeros, beside a refused opening
 unfoldable pub zeroMeter : Meter
-zeroMeter = record { setting = record { code = 0; offset = pos 0 }; state = freshState 0 }
+zeroMeter = record { setting = record { code = 0; offset = pos 0; margin = stepsOf (pos 0) }; state = freshState 0 }
 
 -- what counting goes by: the rate's K and I, and the offset
 unfoldable pub countingOf : Setting → Counting

@@ -3,12 +3,12 @@ use mathlib.Core.Path.{_≡_}
 use Prim.Native.Nat.{ℕ}
 use lib.IntN.{pos}
 use lib.ListN.{replicate}
-use Rattle.level.specs.Types.{samplesOf, thresholds}
+use Rattle.level.specs.Types.{samplesOf, stepsOf, thresholds}
 use Rattle.setting.specs.declared.Setting.{Setting}
 use Rattle.setting.specs.Settings.{iOf}
 use Rattle.meter.specs.declared.Meter.{Meter}
 
--- a meter of a setting that has taken no sample: each h_j is I, all else zero
+-- the meter of a setting before any sample: each h_j is I, all else zero
 pub record Untouched (c : Setting) (I : ℕ) (m : Meter) : Type 0 where
   pub setting : m .setting ≡ c
   pub n : m .state .sums .n .0 ≡ 0
@@ -26,4 +26,4 @@ Fresh c m = Untouched c (iOf c) m
 
 -- the meter beside a refused opening: all zeros
 abbrev pub Zeros : Meter → Type 0
-Zeros m = Untouched (record { code = 0; offset = pos 0 }) 0 m
+Zeros m = Untouched (record { code = 0; offset = pos 0; margin = stepsOf (pos 0) }) 0 m

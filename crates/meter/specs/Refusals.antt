@@ -3,8 +3,9 @@ use mathlib.Core.Bool.{Bool, false, not, _&&_, _||_}
 use mathlib.Core.List.{List, [], _∷_, _++_}
 use Prim.Native.Nat.{ℕ, zero, suc, _+_, _*_, _^_}
 use lib.Dec.{eqb, ltb}
-use lib.IntN.{ℤ, natAbs}
+use lib.IntN.{ℤ, pos, natAbs}
 use lib.ListN.{length, getD}
+use lib.Signed.{ltZ}
 use Rattle.level.specs.Types.{thresholds, activity, twoWords}
 use Rattle.rate.specs.Rates.{isNamed}
 use Rattle.refusal.specs.First.{Rule}
@@ -30,6 +31,16 @@ someBelow (suc k) f = someBelow k f || f k
 -- 1: a code that names no rate
 unfoldable pub unnamedCode : Setting → Bool
 unnamedCode c = not (isNamed (c .code))
+
+-- 17: a margin outside 1 to 22314 steps; these are the most that are not above 16.4 dB
+abbrev pub leastMargin : ℤ
+leastMargin = pos 1
+
+abbrev pub largestMargin : ℤ
+largestMargin = pos 22314
+
+unfoldable pub wrongMargin : Setting → Bool
+wrongMargin c = ltZ (c .margin .0) leastMargin || ltZ largestMargin (c .margin .0)
 
 -- the bounds of refusal 2: |s| and sq a sample, and P and Q
 abbrev pub sumBound : ℕ
@@ -87,6 +98,7 @@ unfoldable pub impossible : Meter → Bool
 impossible m =
     anyOf
     (unnamedCode (m .setting)
+    ∷ wrongMargin (m .setting)
     ∷ impossibleSums (m .state .sums)
     ∷ someBelow thresholds (impossibleCounter (iOf (m .setting)) (m .state))
     ∷ [])
@@ -104,7 +116,7 @@ unfoldable pub tooMany : Meter → ℕ → Bool
 tooMany m new = ltb mostSamples (m .state .sums .n .0 + new)
 
 unfoldable pub openRules : Setting → List Rule
-openRules c = (1, unnamedCode c) ∷ []
+openRules c = (1, unnamedCode c) ∷ (17, wrongMargin c) ∷ []
 
 unfoldable pub chunkRules : Meter → List ℤ → List Rule
 chunkRules m xs = (2, impossible m) ∷ (3, longChunk xs) ∷ (11, tooMany m (length xs)) ∷ []

@@ -6,7 +6,7 @@ use Prim.Native.Nat.{ℕ}
 use lib.Dec.{eqb}
 use lib.IntN.{ℤ, pos}
 use lib.Signed.{ltZ}
-use Rattle.level.specs.Types.{samplesOf, hundredthsOf, thresholds, activity, twoWords, words}
+use Rattle.level.specs.Types.{samplesOf, hundredthsOf, stepsOf, thresholds, activity, twoWords, words}
 use Rattle.refusal.specs.First.{Rule}
 use Rattle.meter.specs.declared.Meter.{Meter}
 use Rattle.sample.specs.Sample.{each}
@@ -16,9 +16,13 @@ use Rattle.percent.specs.Percent.{percentOf}
 use Rattle.meter.specs.declared.Report.{Report}
 use Rattle.meter.specs.Refusals.{impossible}
 
--- M, 15.9 dB
-abbrev pub margin : ℤ
-margin = pos 21635
+-- M, the meter's margin
+abbrev pub marginOf : Meter → ℤ
+marginOf m = m .setting .margin .0
+
+-- the mark of a margin: it is below 20955 steps, the fewest that are not below 15.4 dB
+abbrev pub isMarked : ℤ → Bool
+isMarked M = ltZ M (pos 20955)
 
 abbrev pub isNone : Option ℕ → Bool
 isNone none = true
@@ -26,10 +30,10 @@ isNone (some j) = false
 
 -- the highest crossing of a meter, and d_0
 unfoldable pub crossingOf : Meter → Option ℕ
-crossingOf m = crossingIn margin (twoWords (m .state .sums .sq)) (m .state .a)
+crossingOf m = crossingIn (marginOf m) (twoWords (m .state .sums .sq)) (m .state .a)
 
 unfoldable pub firstOfMeter : Meter → ℤ
-firstOfMeter m = firstExcess margin (twoWords (m .state .sums .sq)) (m .state .a)
+firstOfMeter m = firstExcess (marginOf m) (twoWords (m .state .sums .sq)) (m .state .a)
 
 -- 12: n = 0
 unfoldable pub noSamples : Meter → Bool
@@ -64,9 +68,18 @@ reportRules m =
 -- no report: all its fields are zero
 unfoldable pub noReport : Report
 noReport =
-    record { n = samplesOf 0; s = pos 0; sq = words 0; a = each thresholds (λ j. samplesOf 0); levels = noLevels; percent = hundredthsOf 0 }
+    record {
+      n = samplesOf 0;
+      s = pos 0;
+      sq = words 0;
+      a = each thresholds (λ j. samplesOf 0);
+      levels = noLevels;
+      percent = hundredthsOf 0;
+      margin = stepsOf (pos 0);
+      mark = false;
+    }
 
--- the report with some levels: T is the percentage of their factor
+-- the report with some levels: T is the percentage of their factor; the margin is the meter's, with its mark
 unfoldable pub reportWith : Meter → Levels → Report
 reportWith m l =
     let sums = m .state .sums in
@@ -77,13 +90,15 @@ reportWith m l =
       a = m .state .a;
       levels = l;
       percent = hundredthsOf (percentOf (l .factor .0));
+      margin = m .setting .margin;
+      mark = isMarked (marginOf m);
     }
 
 -- the report at a crossing j
 unfoldable pub reportAt : Meter → ℕ → Report
 reportAt m j =
     let sums = m .state .sums in
-    reportWith m (levelsAt margin (sums .n .0) (twoWords (sums .sq)) (m .state .a) j)
+    reportWith m (levelsAt (marginOf m) (sums .n .0) (twoWords (sums .sq)) (m .state .a) j)
 
 -- the report at what the search for a crossing found
 unfoldable pub reportFor : Meter → Option ℕ → Report

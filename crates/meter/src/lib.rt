@@ -1,6 +1,7 @@
 // The meter's calls (METHOD.md, "One sample", "The report" and "Why a call is refused"): what each
 // hands back.
 mod feeding;
+mod margin;
 mod opening;
 mod reporting;
 mod usable;
@@ -9,6 +10,7 @@ use crossing::Levels;
 use level::Hundredths;
 use level::Samples;
 use level::Squares;
+use level::Steps;
 use level::THRESHOLDS;
 use refusal::Answer;
 use sample::State;
@@ -20,7 +22,8 @@ pub struct Meter {
     pub state: State,
 }
 
-// A report: n, s, sq, the activity counts, the levels, and the activity factor as a percentage.
+// A report: n, s, sq, the activity counts, the levels, the activity factor as a percentage, the margin,
+// and its mark, true where the margin is below 20955 steps.
 pub struct Report {
     pub n: Samples,
     pub s: i64,
@@ -28,6 +31,8 @@ pub struct Report {
     pub a: [Samples; THRESHOLDS],
     pub levels: Levels,
     pub percent: Hundredths,
+    pub margin: Steps,
+    pub mark: bool,
 }
 
 // What a call hands back: its answer, and the meter.

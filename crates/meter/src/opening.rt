@@ -1,11 +1,15 @@
 // Opening a meter.
 ghost use mathlib.Core.Path.{_≡_};
-ghost use Rattle.meter.specs.Calls.{handedBy, openCall};
-ghost use Rattle.meter.specs.Inner.{freshAt};
+ghost use Rattle.refusal.specs.Number.{numberOf};
+ghost use Rattle.meter.specs.Calls.{handedBy, openCall, zeroMeter};
+ghost use Rattle.meter.specs.Inner.{freshAt, refusedWith};
 use crate::Fed;
 use crate::Meter;
+use crate::feeding;
+use crate::margin;
 use level::Samples;
 use level::Squares;
+use level::Steps;
 use level::THRESHOLDS;
 use rate::Named;
 use rate::Rate;
@@ -16,21 +20,35 @@ use sample::Sums;
 use setting::Setting;
 
 impl Meter {
-    // The fresh meter; or refusal 1, with a meter of all zeros that every later call refuses.
+    // The fresh meter; or a refusal, with a meter of all zeros that every later call refuses.
     pub fn open(setting: Setting) -> Fed
         ensures { λ r. ⌜ handedBy r ≡ openCall setting ⌝ }
     {
         match Rate::of(setting.code) {
-            Named::As(rate) => Fed {
-                answer: Answer::Accepted,
-                meter: fresh(setting, rate.i),
-            },
-            Named::Nothing => Fed {
-                answer: Answer::Refused(Refusal::UnnamedRate),
-                meter: fresh(Setting { code: 0, offset: 0 }, 0),
-            },
+            Named::As(rate) => {
+                if margin::is_wrong(setting) {
+                    return unopened(Refusal::WrongMargin);
+                }
+                Fed {
+                    answer: Answer::Accepted,
+                    meter: fresh(setting, rate.i),
+                }
+            }
+            Named::Nothing => unopened(Refusal::UnnamedRate),
         }
     }
+}
+
+// A refused opening hands back a meter of all zeros.
+fn unopened(why: Refusal) -> Fed
+    ensures { λ r. ⌜ handedBy r ≡ refusedWith (numberOf why) zeroMeter ⌝ }
+{
+    let nothing = Setting {
+        code: 0,
+        offset: 0,
+        margin: Steps::of(0),
+    };
+    feeding::refused(fresh(nothing, 0), why)
 }
 
 // A meter that has taken no sample: all zeros but the hangovers.

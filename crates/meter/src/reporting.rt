@@ -8,6 +8,7 @@ ghost use Rattle.meter.specs.Refusals.{impossible};
 use crate::Meter;
 use crate::Report;
 use crate::Reported;
+use crate::margin;
 use crate::usable;
 use crossing::Found;
 use crossing::Levels;
@@ -19,9 +20,6 @@ use level::THRESHOLDS;
 use rate::Named;
 use refusal::Answer;
 use refusal::Refusal;
-
-// M, 15.9 dB.
-const MARGIN: i64 = 21635;
 
 impl Meter {
     // The report on a meter; or a refusal, with a report of all zeros.
@@ -52,14 +50,14 @@ fn measured(meter: Meter) -> Reported
     if a[0].count() == 0 {
         return unreported(meter, Refusal::NoActivity);
     }
-    match crossing::find_levels(sums.n, sq, a, Steps::of(MARGIN)) {
+    match crossing::find_levels(sums.n, sq, a, meter.setting.margin) {
         Found::At(levels) => reported(meter, levels),
         Found::Below => unreported(meter, Refusal::NoCrossingBelow),
         Found::Above => unreported(meter, Refusal::NoCrossingAbove),
     }
 }
 
-// A report with levels, and the percentage of their factor.
+// A report with levels, the percentage of their factor, and the margin that they were found by.
 fn reported(meter: Meter, levels: Levels) -> Reported
     ensures { λ r. ⌜ reportedBy r ≡ reportedWith levels meter ⌝ }
 {
@@ -68,6 +66,7 @@ fn reported(meter: Meter, levels: Levels) -> Reported
     let sq = sums.sq;
     let a = meter.state.a;
     let factor = levels.factor;
+    let margin = meter.setting.margin;
     Reported {
         answer: Answer::Accepted,
         meter,
@@ -78,6 +77,8 @@ fn reported(meter: Meter, levels: Levels) -> Reported
             a,
             levels,
             percent: percent::percentage(factor),
+            margin,
+            mark: margin::is_marked(margin),
         },
     }
 }
@@ -105,6 +106,8 @@ fn unreported(meter: Meter, why: Refusal) -> Reported
                 upper: 0,
             },
             percent: Hundredths::of(0),
+            margin: zero,
+            mark: false,
         },
     }
 }

@@ -8,6 +8,7 @@ ghost use Rattle.rate.specs.Rates.{named};
 ghost use Rattle.meter.specs.Inner.{NextPlace, usableRate};
 ghost use Rattle.meter.specs.Refusals.{anyOf, someBelow, squareBound, impossibleSums, impossibleCounter};
 use crate::Meter;
+use crate::margin;
 use level::Squares;
 use level::THRESHOLDS;
 use rate::Named;
@@ -32,6 +33,9 @@ pub(crate) fn rate(m: Meter) -> Named
 {
     match Rate::of(m.setting.code) {
         Named::As(rate) => {
+            if margin::is_wrong(m.setting) {
+                return Named::Nothing;
+            }
             if impossible_sums(m.state.sums) {
                 return Named::Nothing;
             }

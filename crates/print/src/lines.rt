@@ -10,20 +10,27 @@ use meter::Report;
 use meter::Reported;
 use refusal::Answer;
 use sample::Sums;
+use setting::Setting;
 
-// A line with `meter` and its 38 values: the code, the offset, n, s, sq high, sq low, P, Q, the a_j, the
-// h_j.
+// A line with `meter` and its 39 values: the code, the offset, the margin, n, s, sq high, sq low, P, Q, the
+// a_j, the h_j.
 pub fn meter(line: &mut [u8], used: usize, meter: Meter) -> usize {
     let sums = meter.state.sums;
     let a = meter.state.a;
     let h = meter.state.h;
     let used = text::words(line, used, b"meter");
-    let used = text::spaced(line, used, meter.setting.code as u64);
-    let used = spaced_sample(line, used, meter.setting.offset);
+    let used = chosen(line, used, meter.setting);
     let used = followed(line, used, sums);
     let used = counts(line, used, a);
     let used = text::numbers(line, used, &h);
     text::end_of_line(line, used)
+}
+
+// The code, the offset and the margin, each after a space.
+fn chosen(line: &mut [u8], used: usize, setting: Setting) -> usize {
+    let used = text::spaced(line, used, setting.code as u64);
+    let used = spaced_sample(line, used, setting.offset);
+    text::spaced_signed(line, used, setting.margin.value())
 }
 
 // A space and a sample's value.
@@ -57,7 +64,7 @@ pub fn given(line: &mut [u8], used: usize, name: &[u8], fed: Fed) -> usize {
 }
 
 // A line with `report`, the number and, where there is a report, its n, s, sq high, sq low, the a_j, L, A,
-// C, F, lower, upper and T.
+// C, F, lower, upper, T, the margin and its mark.
 pub fn report(line: &mut [u8], used: usize, reported: Reported) -> usize {
     let answer = reported.answer;
     let used = text::words(line, used, b"report");
@@ -81,7 +88,14 @@ fn measured(line: &mut [u8], used: usize, report: Report) -> usize {
     let used = levels(line, used, found);
     let used = text::spaced(line, used, found.lower as u64);
     let used = text::spaced(line, used, found.upper as u64);
-    text::spaced(line, used, report.percent.number())
+    let used = text::spaced(line, used, report.percent.number());
+    let used = text::spaced_signed(line, used, report.margin.value());
+    text::spaced(line, used, as_digit(report.mark))
+}
+
+// 1 for true, 0 for false.
+fn as_digit(test: bool) -> u64 {
+    if test { 1 } else { 0 }
 }
 
 // Activity counts, each after a space.

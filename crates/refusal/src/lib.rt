@@ -28,7 +28,7 @@ pub enum Refusal {
     TooManySamples,
     // 12: nothing was measured
     NoSamples,
-    // 13: every sample was zero
+    // 13: every sample was the offset
     NoSignal,
     // 14: the envelope never came up to the lowest threshold
     NoActivity,
@@ -36,6 +36,8 @@ pub enum Refusal {
     NoCrossingBelow,
     // 16: no crossing, and the level at the lowest threshold is more than the margin above it
     NoCrossingAbove,
+    // 17: opening with a margin that is out of range
+    WrongMargin,
 }
 
 // What a call answers.
@@ -75,5 +77,6 @@ pub fn number(why: Refusal) -> u32
         Refusal::NoActivity => 14,
         Refusal::NoCrossingBelow => 15,
         Refusal::NoCrossingAbove => 16,
+        Refusal::WrongMargin => 17,
     }
 }

@@ -5,6 +5,7 @@ ghost use Prim.Native.Nat.{_≤_};
 use crate::questions;
 use level::Samples;
 use level::Squares;
+use level::Steps;
 use level::THRESHOLDS;
 use meter::Fed;
 use meter::Meter;
@@ -78,6 +79,7 @@ fn setting(record: &[u8]) -> Setting {
     Setting {
         code: block::one_byte(record, 1) as u32,
         offset: offset[0],
+        margin: Steps::of(signed(block::eight_bytes(record, 4))),
     }
 }
 
@@ -87,22 +89,22 @@ fn loaded(record: &[u8]) -> Meter {
         setting: setting(record),
         state: State {
             sums: sums(record),
-            a: sample::counts(numbers(record, 52)),
-            h: numbers(record, 172),
+            a: sample::counts(numbers(record, 60)),
+            h: numbers(record, 180),
         },
     }
 }
 
 fn sums(record: &[u8]) -> Sums {
     Sums {
-        n: Samples::of(block::eight_bytes(record, 4)),
-        s: signed(block::eight_bytes(record, 12)),
+        n: Samples::of(block::eight_bytes(record, 12)),
+        s: signed(block::eight_bytes(record, 20)),
         sq: Squares {
-            high: block::eight_bytes(record, 20),
-            low: block::eight_bytes(record, 28),
+            high: block::eight_bytes(record, 28),
+            low: block::eight_bytes(record, 36),
         },
-        p: block::eight_bytes(record, 36),
-        q: block::eight_bytes(record, 44),
+        p: block::eight_bytes(record, 44),
+        q: block::eight_bytes(record, 52),
     }
 }
 
@@ -118,7 +120,7 @@ fn signed(word: u64) -> i64
 
 // A number of eight bytes for each threshold, from a place on.
 fn numbers(record: &[u8], from: usize) -> [u64; THRESHOLDS]
-    requires { ⌜ from ≤ 172 ⌝ }
+    requires { ⌜ from ≤ 180 ⌝ }
 {
     let mut numbers = [0u64; THRESHOLDS];
     let mut j = 0;

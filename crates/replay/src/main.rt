@@ -2,21 +2,22 @@
 //
 // A record is a byte for its kind and then the fields of that kind, numbers little-endian:
 //
-//   1 open     code u8, offset i16             prints `open r`
-//   2 chunk    count u16, count samples i16    prints `chunk r`
-//   3 block    length u16, bytes               prints `block r`
-//   4 report                                   prints `report 0` and the report's 26 values, or `report r`
-//   5 load     the 38 values of a meter        prints `load`
-//   6 show                                     prints `meter` and the 38 values
-//   7 lev      high u64, low u64               prints `lev v`, or `lev none`
-//   8 check    code u8, length u16, bytes      prints `check r`, the C host's answer
+//   1 open     code u8, offset i16, margin i64   prints `open r`
+//   2 chunk    count u16, count samples i16      prints `chunk r`
+//   3 block    length u16, bytes                 prints `block r`
+//   4 report                                     prints `report 0` and the report's 28 values, or `report r`
+//   5 load     the 39 values of a meter          prints `load`
+//   6 show                                       prints `meter` and the 39 values
+//   7 lev      high u64, low u64                 prints `lev v`, or `lev none`
+//   8 check    code u8, length u16, bytes        prints `check r`, the C host's answer
 //
-// r is the refusal's number, or 0. The 38 values are the code u8, the offset i16 and then, eight bytes each,
-// n, s, sq high, sq low, P, Q, the fifteen a_j and the fifteen h_j. A report's 26 values are its n, s,
-// sq high, sq low, the fifteen a_j, L, A, C, F, the lower and upper j, and T. The run starts with a meter of
-// all zeros; open and load replace it. A record that is cut short, or of another kind, ends the run with
-// the line `bad record k`, where k is its number, from 1; standard error says where it starts and what is
-// wrong with it. A failure to read or to write ends the run with a line on standard error alone.
+// r is the refusal's number, or 0. The 39 values are the code u8, the offset i16 and then, eight bytes
+// each, the margin, n, s, sq high, sq low, P, Q, the fifteen a_j and the fifteen h_j. A report's 28 values
+// are its n, s, sq high, sq low, the fifteen a_j, L, A, C, F, the lower and upper j, T, the margin and its
+// mark, 0 or 1. The run starts with a meter of all zeros; open and load replace it. A record that is cut
+// short, or of another kind, ends the run with the line `bad record k`, where k is its number, from 1;
+// standard error says where it starts and what is wrong with it. A failure to read or to write ends the run
+// with a line on standard error alone.
 mod calls;
 mod faults;
 mod questions;
@@ -58,7 +59,7 @@ fn main() {
 
 // Plays all records.
 fn played(bytes: &mut [u8], samples: &mut [i16], line: &mut [u8], lines: &mut [u8]) {
-    let mut meter = Meter::open(Setting { code: 0, offset: 0 }).meter;
+    let mut meter = Meter::open(Setting::usual(0)).meter;
     let mut streams = Streams::new();
     let mut k: u64 = 1;
     while k < u64::MAX {

@@ -35,11 +35,12 @@ pub fn ahead(bytes: &[u8], streams: Streams) -> &[u8] {
 // How many bytes of a record of a kind say how long it is; of no known kind, none.
 fn head(kind: u8) -> usize {
     match kind {
-        1 | 8 => 4,
+        1 => 12,
         2 | 3 => 3,
         4 | 6 => 1,
-        5 => 292,
+        5 => 300,
         7 => 17,
+        8 => 4,
         _ => 0,
     }
 }

@@ -46,7 +46,7 @@ struct Measurement {
 
 // The measurement of every block of the input.
 fn measured(bytes: &mut [u8], lines: &mut [u8]) -> Measurement {
-    let meter = Meter::open(Setting { code: 1, offset: 0 }).meter;
+    let meter = Meter::open(Setting::usual(1)).meter;
     let mut all = Measurement {
         meter,
         streams: Streams::new(),

@@ -1,8 +1,30 @@
-// What is chosen when a meter is opened. The meter keeps it, and the exact machine E is fed from it.
+// What is chosen when a meter is opened. The meter keeps it; of it the exact machine E is fed the code
+// and the offset.
+ghost use mathlib.Core.Path.{_≡_};
+ghost use Rattle.setting.specs.Settings.{usualSetting};
+use level::Steps;
 
 pub struct Setting {
     // The rate code.
     pub code: u32,
     // The offset o: what the line card's converter gives for silence.
     pub offset: i16,
+    // The margin M: how far the threshold is to lie below the active level that it leads to.
+    pub margin: Steps,
+}
+
+// The margin that P.56 names, 15.9 dB, in steps.
+const USUAL_MARGIN: i64 = 21635;
+
+impl Setting {
+    // A rate code with no offset and the margin that P.56 names.
+    pub fn usual(code: u32) -> Setting
+        ensures { λ r. ⌜ r ≡ usualSetting code ⌝ }
+    {
+        Setting {
+            code,
+            offset: 0,
+            margin: Steps::of(USUAL_MARGIN),
+        }
+    }
 }

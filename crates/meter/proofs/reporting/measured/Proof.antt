@@ -14,20 +14,21 @@ use Rattle.crossing.specs.declared.Found.the-variants.{At, Below, Above}
 use Rattle.crossing.specs.Inner.FindLevels.{Measured}
 use Rattle.crossing.specs.Searched.{said, searched}
 use Rattle.meter.specs.declared.Meter.{Meter}
-use Rattle.meter.specs.Reports.{margin, noSamples, noSignal, noActivity}
+use Rattle.meter.specs.Reports.{marginOf, noSamples, noSignal, noActivity}
 use Rattle.meter.specs.Calls.{reportCall}
 use Rattle.meter.proofs.Finding.{handedFor, by-found}
+use Rattle.meter.proofs.Range.{margin-range}
 use Rattle.meter.proofs.Outcome.{Tested, at-12, at-13, at-14}
 use Rattle.meter.proofs.Possible.{possible}
 use Rattle.meter.proofs.reporting.measured.Statement.{statement}
 use Rattle.meter.proofs.reporting.measured.Tie as tie
 
-measured : (m : Meter) → Tested m → Measured margin (m .state .sums .n .0) (twoWords (m .state .sums .sq)) (m .state .a)
+measured : (m : Meter) → Tested m → Measured (marginOf m) (m .state .sums .n .0) (twoWords (m .state .sums .sq)) (m .state .a)
 unfolding noSamples noSignal noActivity
 measured m t =
     let p = possible m (t .passed) in
     record {
-      margin = omega arith;
+      margin = omega (arith, margin-range (m .setting) (p .margin) .most);
       n-pos = pos-of-ne-zero (eqb-false _ 0 (t .n-some));
       sq-pos = pos-of-ne-zero (eqb-false _ 0 (t .sq-some));
       sq-max = omega (arith, p .sq-max, p .n-max);
@@ -91,16 +92,13 @@ returns-3 c =
 
 find-levels-requires : tie.Need-find-levels-requires
 find-levels-requires c κs =
-    let m = start-at (counted-at (c .before)) .args .meter in
-    subst (λ (M : Steps). Measured (M .0) (m .state .sums .n .0) (twoWords (m .state .sums .sq)) (m .state .a)) (sym (c .of .ensures)) (measured m (tested (c .before)))
+    measured (start-at (counted-at c) .args .meter) (tested c)
 
 -- what was found, at the margin, is what the report call hands back
 handed : (c : tie.After-find-levels) (f : Found) → c .find-levels .result ≡ f
-    → handedFor (said f) (start-at (counted-at (c .before .before)) .args .meter) ≡ reportCall (start-at (counted-at (c .before .before)) .args .meter)
+    → handedFor (said f) (start-at (counted-at (c .before)) .args .meter) ≡ reportCall (start-at (counted-at (c .before)) .args .meter)
 handed c f e =
-    let m = start-at (counted-at (c .before .before)) .args .meter in
-    by-found m (tested (c .before .before)) f
-    (ap said (sym e) ∙ c .find-levels .ensures ∙ ap (λ (M : Steps). searched (M .0) (m .state .sums .n .0) (twoWords (m .state .sums .sq)) (m .state .a)) (c .before .of .ensures))
+    by-found (start-at (counted-at (c .before)) .args .meter) (tested (c .before)) f (ap said (sym e) ∙ c .find-levels .ensures)
 
 returns-4 : tie.Need-returns-4
 unfolding said
@@ -128,7 +126,6 @@ measured-spec =
     (λ c κs. search needs)
     (λ c κs. search needs)
     returns-3
-    (λ c κs. search needs)
     find-levels-requires
     (λ c. search needs)
     (λ c κs. search needs)

@@ -1,7 +1,7 @@
 -- The conditions of refusal 2, in the definition's order.
 use borrow.Author.Needs.{needs}
 use mathlib.Core.Bool.{Bool, true, false, not}
-use mathlib.Core.List.{[], _∷_}
+use mathlib.Core.List.{List, [], _∷_}
 use mathlib.Core.Option.{none, some}
 use mathlib.Core.Path.{_≡_, sym, ap, _∙_}
 use Rattle.level.specs.Types.{thresholds}
@@ -11,7 +11,7 @@ use Rattle.rate.proofs.Laws.{named-as, named-nothing, is-named, is-not-named, r
 use Rattle.setting.specs.Settings.{iOf}
 use Rattle.meter.specs.declared.Meter.{Meter}
 use Rattle.meter.specs.Inner.{usableRate}
-use Rattle.meter.specs.Refusals.{anyOf, someBelow, unnamedCode, impossibleSums, impossibleCounter, impossible}
+use Rattle.meter.specs.Refusals.{anyOf, someBelow, unnamedCode, wrongMargin, impossibleSums, impossibleCounter, impossible}
 use Rattle.meter.proofs.Below.{stop, go-on, at-last}
 use Rattle.meter.proofs.usable.rate.Statement.{statement}
 use Rattle.meter.proofs.usable.rate.Tie as tie
@@ -28,11 +28,11 @@ usable m r e q = sym (simp e q)
 
 -- the conditions after the code's own
 tests : (m : Meter) (r : Rate) {b : Bool} → rateOf (m .setting .code) ≡ some r
-    → b ≡ anyOf (impossibleSums (m .state .sums) ∷ someBelow thresholds (impossibleCounter (r .i) (m .state)) ∷ []) → impossible m ≡ b
+    → b ≡ anyOf (wrongMargin (m .setting) ∷ impossibleSums (m .state .sums) ∷ someBelow thresholds (impossibleCounter (r .i) (m .state)) ∷ []) → impossible m ≡ b
 unfolding impossible unnamedCode iOf
 tests m r e h =
     sym (go-on _ _ (ap not (is-named (m .setting .code) r e))
-    (h ∙ ap (λ (q : Rate). anyOf (impossibleSums (m .state .sums) ∷ someBelow thresholds (impossibleCounter (q .i) (m .state)) ∷ [])) (sym (row-is (m .setting .code) r e))))
+    (h ∙ ap (λ (q : Rate). anyOf (wrongMargin (m .setting) ∷ impossibleSums (m .state .sums) ∷ someBelow thresholds (impossibleCounter (q .i) (m .state)) ∷ [])) (sym (row-is (m .setting .code) r e))))
 
 unnamed : (m : Meter) → rateOf (m .setting .code) ≡ none → impossible m ≡ true
 unfolding impossible unnamedCode
@@ -43,30 +43,55 @@ unnamed m e = sym (stop _ _ (ap not (is-not-named (m .setting .code) e)))
 rate-is : (c : tie.After-rate) → rateOf (c .before .before .before .args .m .setting .code) ≡ some (c .rate .given .0 .0)
 rate-is c = named-as _ _ _ (c .before .before .of .ensures) (c .rate .given .1)
 
+-- the meter, and each test that was passed or not, as the definition has it
+abbrev meter-at : tie.After-is-wrong → Meter
+meter-at c = c .before .before .before .before .before .args .m
+
+margin-test : (b : Bool) (c : tie.After-is-wrong) → c .is-wrong .result ≡ b → wrongMargin (meter-at c .setting) ≡ b
+margin-test b c e = sym (c .is-wrong .ensures) ∙ e
+
+sums-test : (b : Bool) (c : tie.After-impossible-sums) → c .impossible-sums .result ≡ b → impossibleSums (meter-at (c .before .before) .state .sums) ≡ b
+sums-test b c e = sym (c .impossible-sums .ensures) ∙ e
+
+-- past the margin, and past the sums
+past-margin : (c : tie.After-impossible-sums) {b : Bool} (rest : List Bool) → b ≡ anyOf rest → b ≡ anyOf (wrongMargin (meter-at (c .before .before) .setting) ∷ rest)
+past-margin c rest h = go-on _ rest (margin-test false (c .before .before) (c .before .if1 .left)) h
+
 returns : tie.Need-returns
 unfolding named
 returns c =
-    let r = c .before .before .before in
-    let m = r .before .before .before .args .m in
-    unusable m (tests m _ (rate-is r) (stop _ _ (sym (c .before .impossible-sums .ensures) ∙ c .if1 .taken)))
+    let w = c .before in
+    unusable (meter-at w) (tests (meter-at w) _ (rate-is (w .before .before)) (stop _ _ (margin-test true w (c .if1 .taken))))
 
 returns-2 : tie.Need-returns-2
 unfolding named
 returns-2 c =
-    let r = c .before .before .before .before .before in
-    let m = r .before .before .before .args .m in
-    unusable m (tests m _ (rate-is r) (go-on _ _ (sym (c .before .before .before .impossible-sums .ensures) ∙ c .before .before .if1 .left) (stop _ _ (sym (c .before .impossible-counters .ensures) ∙ c .if2 .taken))))
+    let s = c .before in
+    let w = s .before .before in
+    unusable (meter-at w) (tests (meter-at w) _ (rate-is (w .before .before)) (past-margin s _ (stop _ _ (sums-test true s (c .if2 .taken)))))
 
 returns-3 : tie.Need-returns-3
 unfolding named
 returns-3 c =
-    let r = c .before .before .before .before .before in
-    let m = r .before .before .before .args .m in
-    usable m _ (tests m _ (rate-is r) (go-on _ _ (sym (c .before .before .before .impossible-sums .ensures) ∙ c .before .before .if1 .left) (sym (sym (c .before .impossible-counters .ensures) ∙ c .if2 .left) ∙ at-last _))) (rate-is r)
+    let s = c .before .before .before in
+    let w = s .before .before in
+    unusable (meter-at w)
+    (tests (meter-at w) _ (rate-is (w .before .before))
+    (past-margin s _ (go-on _ _ (sums-test false s (c .before .before .if2 .left)) (stop _ _ (sym (c .before .impossible-counters .ensures) ∙ c .if3 .taken)))))
 
 returns-4 : tie.Need-returns-4
 unfolding named
 returns-4 c =
+    let s = c .before .before .before in
+    let w = s .before .before in
+    usable (meter-at w) _
+    (tests (meter-at w) _ (rate-is (w .before .before))
+    (past-margin s _ (go-on _ _ (sums-test false s (c .before .before .if2 .left)) (sym (sym (c .before .impossible-counters .ensures) ∙ c .if3 .left) ∙ at-last _))))
+    (rate-is (w .before .before))
+
+returns-5 : tie.Need-returns-5
+unfolding named
+returns-5 c =
     let m = c .before .before .before .args .m in
     unusable m (unnamed m (named-nothing _ _ (c .before .before .of .ensures) (c .enum-told .given .1)))
 
@@ -80,6 +105,8 @@ rate-spec =
     returns
     (λ c κs. search needs)
     returns-2
-    (λ c. search needs)
+    (λ c κs. search needs)
     returns-3
-    returns-4)
+    (λ c. search needs)
+    returns-4
+    returns-5)

@@ -1,5 +1,4 @@
-// The customer's worked figures, run: those that the table of this crate does not prove, and the reports
-// once more.
+// The customer's worked figures, run: the answers to calls, and the four reports at P.56's margin.
 ghost use mathlib.Core.Path.{_≡_};
 ghost use lib.ListN.{length};
 use level::Samples;
@@ -35,7 +34,7 @@ fn full(lines: &mut [u8], used: usize) -> usize {
 
 // The longest chunk, and one sample more.
 fn chunks(lines: &mut [u8], used: usize) -> usize {
-    let fresh = Meter::open(Setting { code: 2, offset: 0 }).meter;
+    let fresh = Meter::open(Setting::usual(2)).meter;
     let samples = silence();
     let used = print::given(
         lines,
@@ -100,10 +99,10 @@ fn reported(lines: &mut [u8], used: usize, n: u64, squares: u64, a: [u64; THRESH
     print::report(lines, used, handed_in(n, squares, a).report())
 }
 
-// A meter at code 2 whose other fields are zero.
+// A meter at code 2, with the usual margin, whose other fields are zero.
 fn handed_in(n: u64, squares: u64, a: [u64; THRESHOLDS]) -> Meter {
     Meter {
-        setting: Setting { code: 2, offset: 0 },
+        setting: Setting::usual(2),
         state: State {
             sums: Sums {
                 n: Samples::of(n),

@@ -1,0 +1,32 @@
+// The margin of a meter: its range, and the mark that a report has beside it.
+ghost use mathlib.Core.Path.{_≡_};
+ghost use Rattle.meter.specs.Refusals.{wrongMargin};
+ghost use Rattle.meter.specs.Reports.{isMarked};
+use level::Steps;
+use setting::Setting;
+
+// The least margin and the largest, in steps; the largest is just under 16.4 dB.
+const LEAST: i64 = 1;
+
+const LARGEST: i64 = 22314;
+
+// The fewest steps that are not below 15.4 dB: a margin of fewer is marked.
+const MARKED_BELOW: i64 = 20955;
+
+// Whether the margin is out of range.
+pub(crate) fn is_wrong(setting: Setting) -> bool
+    ensures { λ r. ⌜ r ≡ wrongMargin setting ⌝ }
+{
+    let margin = setting.margin.value();
+    if margin < LEAST {
+        return true;
+    }
+    LARGEST < margin
+}
+
+// Whether a margin is marked.
+pub(crate) fn is_marked(margin: Steps) -> bool
+    ensures { λ r. ⌜ r ≡ isMarked (margin .0) ⌝ }
+{
+    margin.value() < MARKED_BELOW
+}

@@ -1,0 +1,49 @@
+-- Each case by the name that the match found.
+use borrow.Author.Needs.{needs}
+use mathlib.Core.Path.{_≡_, sym, ap}
+use Rattle.refusal.specs.declared.Refusal.{Refusal}
+use Rattle.refusal.specs.Number.{numberOf}
+use Rattle.refusal.proofs.number.Statement.{statement}
+use Rattle.refusal.proofs.number.Tie as tie
+
+named : {why found : Refusal} → why ≡ found → numberOf found ≡ numberOf why
+named e = ap numberOf (sym e)
+
+pub number-spec : {M : Type 1} → statement M
+number-spec =
+    tie.close
+    (tie.spec
+    (λ c. search needs)
+    (λ c. search needs)
+    (λ c. search needs)
+    (λ c. search needs)
+    (λ c. search needs)
+    (λ c. search needs)
+    (λ c. search needs)
+    (λ c. search needs)
+    (λ c. search needs)
+    (λ c. search needs)
+    (λ c. search needs)
+    (λ c. search needs)
+    (λ c. search needs)
+    (λ c. search needs)
+    (λ c. search needs)
+    (λ c. search needs)
+    (λ c. search needs)
+    (λ c. named (c .enum-told .given .1))
+    (λ c. named (c .enum-told2 .given .1))
+    (λ c. named (c .enum-told3 .given .1))
+    (λ c. named (c .enum-told4 .given .1))
+    (λ c. named (c .enum-told5 .given .1))
+    (λ c. named (c .enum-told6 .given .1))
+    (λ c. named (c .enum-told7 .given .1))
+    (λ c. named (c .enum-told8 .given .1))
+    (λ c. named (c .enum-told9 .given .1))
+    (λ c. named (c .enum-told10 .given .1))
+    (λ c. named (c .enum-told11 .given .1))
+    (λ c. named (c .enum-told12 .given .1))
+    (λ c. named (c .enum-told13 .given .1))
+    (λ c. named (c .enum-told14 .given .1))
+    (λ c. named (c .enum-told15 .given .1))
+    (λ c. named (c .enum-told16 .given .1))
+    (λ c. named (c .enum-told17 .given .1)))
