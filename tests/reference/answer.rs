@@ -5,6 +5,7 @@
 
 use crate::meter::{Meter, Report};
 use crate::percent::{difference, WHOLE};
+use crate::setting::marked;
 
 /// A clause in words, and whether it holds.
 pub type Clause = (&'static str, bool);
@@ -36,8 +37,8 @@ fn numbers(meter: &Meter, given: u32) -> [Clause; 6] {
     rows.map(|(r, clause, condition)| (clause, (given == r) == condition))
 }
 
-/// The report is the one at a crossing, the one that is used, which is the highest (the customer's
-/// scope, "The report"; the customer's request L4).
+/// The report is the one at a crossing, the one that is used, which is the highest, at the margin of
+/// the meter (the customer's scope, "The report"; the customer's requests L4 and L5).
 fn fields(meter: &Meter, report: &Report) -> Vec<Clause> {
     let j = report.upper;
     let at_j = "a crossing at the upper threshold";
@@ -56,6 +57,8 @@ fn fields(meter: &Meter, report: &Report) -> Vec<Clause> {
         ("C at the crossing", report.C == expected.C),
         ("F at the crossing", report.F == expected.F),
         ("the lower threshold", report.lower == expected.lower),
+        ("the report's margin", report.margin == meter.margin),
+        ("the mark", report.mark == marked(meter.margin)),
     ];
     [&at_crossing[..], &percentage(report.T, expected.F)].concat()
 }

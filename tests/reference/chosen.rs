@@ -1,22 +1,15 @@
 //! What the reports of a script chose from: how many crossings, and of what kind the one used is.
 
 use crate::meter::Meter;
-use crate::records::{read, Record};
-use crate::replay::Player;
+use crate::records::Record;
+use crate::replay::played;
 
 /// A line for each report of a level, in the order of the script; None where the script has a bad
 /// record.
 pub fn chosen(script: &[u8]) -> Option<String> {
-    let (records, bad) = read(script);
-    let mut player = Player::new();
-    let mut lines = String::new();
-    for record in &records {
-        player.answer(record);
-        if let Record::Report = record {
-            lines += &line(&player.meter).unwrap_or_default();
-        }
-    }
-    (!bad).then_some(lines)
+    let played = played(script)?.into_iter();
+    let reports = played.filter(|(record, _)| matches!(record, Record::Report));
+    Some(reports.filter_map(|(_, meter)| line(&meter)).collect())
 }
 
 /// The number of a meter's crossings and, of the one that is used, whether its d_j is `zero` or a

@@ -12,6 +12,7 @@ mod signals;
 
 use crate::measurement::{self, Levels, Measurement};
 use crate::rate::{Rate, RATES};
+use crate::setting::Setting;
 use crate::tally::Tally;
 use reading::{Figure, Reading};
 use signals::{pulsed_noise, silence, tone, white_noise};
@@ -123,6 +124,11 @@ impl Case {
         )
     }
 
+    /// What the meter is opened with: the margin of the Recommendation, and no offset.
+    fn setting(&self) -> Setting {
+        Setting::usual(self.rate.code)
+    }
+
     /// The samples to measure.
     fn samples(&self) -> Vec<i16> {
         let rms = VOLT / 10f64.powf(self.attenuator / 20.0);
@@ -185,7 +191,7 @@ fn no_level(r: u32, measurement: &Measurement) -> (String, bool) {
 pub fn script() -> Vec<u8> {
     let mut out = Vec::new();
     for case in cases() {
-        measurement::write(case.rate.code, &case.samples(), &mut out);
+        measurement::write(case.setting(), &case.samples(), &mut out);
     }
     out
 }
@@ -195,7 +201,7 @@ pub fn check(printed: &str) -> Tally {
     let mut tally = Tally::new();
     let mut lines = printed.lines();
     for case in cases() {
-        let measurement = measurement::read(&mut lines, case.rate.code, length(case.rate));
+        let measurement = measurement::read(&mut lines, case.setting(), length(case.rate));
         let (text, within) = match measurement {
             Some(measurement) => case.result(&measurement),
             None => ("not the lines of a whole measurement".to_string(), false),

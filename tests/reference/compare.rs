@@ -7,11 +7,18 @@ use crate::printed::{self, numbers};
 use crate::rate::rate;
 use crate::records::{read, Record};
 use crate::replay::Player;
+use crate::setting::Setting;
 use crate::tally::Tally;
+
+/// What a record must be that is no opening: a call, a show or a report.
+const OF_A_LIST: &str = "a record of a list";
 
 /// E beside the printed answers, and the checks counted so far.
 struct Comparison {
+    /// E, if the last opening was one to accept.
     exact: Option<Exact>,
+    /// The margin of the last opening, which E is not fed.
+    margin: i64,
     /// The meter last shown, if no call came after it.
     shown: Option<Meter>,
     tally: Tally,
@@ -22,6 +29,7 @@ impl Comparison {
     fn new() -> Comparison {
         Comparison {
             exact: None,
+            margin: 0,
             shown: None,
             tally: Tally::new(),
         }
@@ -30,35 +38,46 @@ impl Comparison {
     /// Compares one record's line.
     fn line(&mut self, k: usize, record: &Record, line: &str) {
         let shown = self.shown.take();
-        if let Record::Open(code, offset) = record {
-            let rate = rate(u32::from(*code));
-            self.exact = rate.map(|rate| Exact::open(rate, *offset, &thresholds(rate)));
-            self.tally.holds(
-                &format!("record {k}: {line}"),
-                rate.is_some() && line == "open 0",
-            );
-            return;
-        }
-        let Some(exact) = &mut self.exact else {
-            self.tally.holds(
-                &format!("record {k}: a list that opens with a named code"),
-                false,
-            );
-            return;
-        };
         let name = format!("record {k}: {line}:");
+        if let Record::Open(setting) = record {
+            return self.open(&name, setting, line);
+        }
         let tally = &mut self.tally;
+        let Some(exact) = &mut self.exact else {
+            return unopened(tally, &name, record, line);
+        };
         match record {
             Record::Chunk(samples) => call(tally, &name, exact.chunk(samples), line, "chunk"),
             Record::Block(bytes) => call(tally, &name, exact.block(bytes), line, "block"),
-            Record::Show => self.shown = show(tally, &name, exact, line),
+            Record::Show => self.shown = show(tally, &name, exact, self.margin, line),
             Record::Report => {
                 report(tally, &name, exact, shown.as_ref(), line);
                 self.shown = shown;
             }
-            _ => tally.holds(&format!("{name} a record of a list"), false),
+            _ => tally.holds(&format!("{name} {OF_A_LIST}"), false),
         }
     }
+
+    /// An opening is accepted, or refused with its number, just where it is to be; E is fed the code
+    /// and the offset (the customer's scope, "One sample"; the customer's request L2).
+    fn open(&mut self, name: &str, setting: &Setting, line: &str) {
+        let r = setting.refusal();
+        let right = line == format!("open {r}");
+        self.tally
+            .holds(&format!("{name} the opening's answer"), right);
+        let rate = rate(u32::from(setting.code)).filter(|_| r == 0);
+        self.exact = rate.map(|rate| Exact::open(rate, setting.offset, &thresholds(rate)));
+        self.margin = setting.margin;
+    }
+}
+
+/// Where no opening was accepted, the meter is of all zeros, and every call on it is refused (the
+/// customer's scope, "Why a call is refused").
+fn unopened(tally: &mut Tally, name: &str, record: &Record, line: &str) {
+    let of_a_list = !matches!(record, Record::Load(_) | Record::Lev(_) | Record::Check(..));
+    tally.holds(&format!("{name} {OF_A_LIST}"), of_a_list);
+    let right = line == Player::new().answer(record);
+    tally.holds(&format!("{name} the answer of all zeros"), right);
 }
 
 /// A call is accepted just where E accepts it.
@@ -70,14 +89,15 @@ fn call(tally: &mut Tally, name: &str, accepted: bool, line: &str, word: &str) {
     tally.holds(&format!("{name} acceptance"), agrees);
 }
 
-/// The clauses of demand 3 about a meter, with its offset, its total and its sums; gives the meter
-/// where it is one to report on.
-fn show(tally: &mut Tally, name: &str, exact: &Exact, line: &str) -> Option<Meter> {
+/// The clauses of demand 3 about a meter, with what was chosen at opening, its total and its sums;
+/// gives the meter where it is one to report on.
+fn show(tally: &mut Tally, name: &str, exact: &Exact, margin: i64, line: &str) -> Option<Meter> {
     let meter = printed::meter(line);
-    tally.holds(&format!("{name} 38 values"), meter.is_some());
+    tally.holds(&format!("{name} 39 values"), meter.is_some());
     let meter = meter?;
     let clauses = [
         ("offset", meter.offset == exact.offset),
+        ("margin", meter.margin == margin),
         ("n", meter.n == exact.y),
         ("s", meter.s == exact.s),
         ("sq", meter.sq == exact.sq),

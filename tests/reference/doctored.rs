@@ -1,6 +1,7 @@
 //! Wrong answers to lists of calls and on meters handed in, to see that the check of demand 3
 //! refuses each of them.
 
+mod margins;
 mod offsets;
 
 use crate::answer;
@@ -10,8 +11,12 @@ use crate::measurement;
 use crate::meter::{Meter, Report};
 use crate::records::Record;
 use crate::replay::{meter_line, replay, report_line, Player};
+use crate::setting::Setting;
 use crate::tally::Tally;
 use std::iter;
+
+/// Code 1 with no offset and the usual margin.
+const USUAL: Setting = Setting::usual(1);
 
 /// A list of calls at code 1: an opening, chunks and blocks, a show and a report.
 struct List {
@@ -22,11 +27,11 @@ struct List {
 }
 
 impl List {
-    /// The list of some calls at an offset.
-    fn new(offset: i16, calls: &[Record]) -> List {
+    /// The list of some calls at a setting.
+    fn new(setting: Setting, calls: &[Record]) -> List {
         let mut player = Player::new();
         let (mut script, mut lines) = (Vec::new(), String::new());
-        let opening = Record::Open(1, offset);
+        let opening = Record::Open(setting);
         for record in iter::once(&opening).chain(calls) {
             record.write(&mut script);
             lines += &player.answer(record);
@@ -42,9 +47,9 @@ impl List {
         }
     }
 
-    /// The list of one chunk at an offset.
-    fn of_chunk(offset: i16, samples: &[i16]) -> List {
-        List::new(offset, &[Record::Chunk(samples.to_vec())])
+    /// The list of one chunk at a setting.
+    fn of_chunk(setting: Setting, samples: &[i16]) -> List {
+        List::new(setting, &[Record::Chunk(samples.to_vec())])
     }
 
     /// Checks that with these lines these clauses of demand 3 fail, and no other.
@@ -58,6 +63,13 @@ impl List {
     /// The same, with this line for the report.
     fn breaks(&self, tally: &mut Tally, line: &str, clauses: &[&str]) {
         let lines = format!("{}{}\n{line}\n", self.lines, meter_line(&self.meter));
+        self.fails(tally, line, &lines, clauses);
+    }
+
+    /// The same, with this line for the show.
+    fn breaks_shown(&self, tally: &mut Tally, line: &str, clauses: &[&str]) {
+        let reported = report_line(&self.meter.report());
+        let lines = format!("{}{line}\n{reported}\n", self.lines);
         self.fails(tally, line, &lines, clauses);
     }
 
@@ -95,6 +107,7 @@ pub fn doctored(tally: &mut Tally) {
     lines(tally);
     totals(tally);
     offsets::offsets(tally);
+    margins::margins(tally);
 }
 
 /// A list for each answer, on which any other breaks two clauses: the right one's and its own.
@@ -110,7 +123,8 @@ fn numbers(tally: &mut Tally) {
     ];
     for (right, due, samples) in &rows {
         for offset in [0, -1, 32767] {
-            let list = List::of_chunk(offset, &around(offset, samples));
+            let setting = Setting { offset, ..USUAL };
+            let list = List::of_chunk(setting, &around(offset, samples));
             list.breaks(tally, &report_line(&list.meter.report()), &[]);
             list.breaks(tally, "report 2", &[due]);
             for (wrong, own, _) in rows[1..].iter().filter(|row| row.0 != *right) {
@@ -132,7 +146,7 @@ fn crossings(tally: &mut Tally) {
 /// The reports at all the crossings of a list: the one at the highest breaks nothing, and any other
 /// just the clause that it is used (the customer's request L4).
 fn at_crossings(tally: &mut Tally, samples: &[i16], places: &[usize]) {
-    let list = List::of_chunk(0, samples);
+    let list = List::of_chunk(USUAL, samples);
     let found: Vec<usize> = list.meter.crossings().collect();
     tally.equal("the crossings of a list", &found[..], places);
     for (i, &j) in places.iter().enumerate() {
@@ -146,7 +160,7 @@ fn at_crossings(tally: &mut Tally, samples: &[i16], places: &[usize]) {
 
 /// A level although d_0 is negative: refusal 15 is for no crossing at all.
 fn level_above(tally: &mut Tally) {
-    let list = List::of_chunk(0, &faint_hum_and_shout());
+    let list = List::of_chunk(USUAL, &faint_hum_and_shout());
     tally.holds("a negative d_0", list.meter.d(0) < Some(0));
     let level = list.meter.report_at(2).expect("a crossing at 2");
     list.breaks(tally, &report_line(&Ok(level)), &[]);
@@ -159,7 +173,7 @@ fn level_above(tally: &mut Tally) {
 
 /// Reports with one thing off.
 fn reports(tally: &mut Tally) {
-    let list = List::of_chunk(0, &hum_and_shout());
+    let list = List::of_chunk(USUAL, &hum_and_shout());
     let right = list.meter.report_at(4).expect("a crossing at 4");
     let with = |change: &dyn Fn(&mut Report)| {
         let mut report = right.clone();
@@ -187,7 +201,7 @@ fn reports(tally: &mut Tally) {
 
 /// Reports whose T is off: one less and one more, none, the least that F allows, past the whole.
 fn percentages(tally: &mut Tally) {
-    let list = List::of_chunk(0, &hum_and_shout());
+    let list = List::of_chunk(USUAL, &hum_and_shout());
     let right = list.meter.report().expect("a crossing");
     let rows = [
         (right.T - 1, &["no larger T"][..]),
@@ -210,7 +224,7 @@ fn active(n: u64, a: u64) -> Meter {
         n,
         sq: 64 * u128::from(a),
         a: [a; 15],
-        ..Meter::open(2, 0).0
+        ..Meter::open(Setting::usual(2)).0
     }
 }
 
@@ -242,7 +256,7 @@ fn percentages_at_ends(tally: &mut Tally) {
 
 /// Lines with more than a refusal on them, and with less or more than a whole report.
 fn lines(tally: &mut Tally) {
-    let list = List::of_chunk(0, &hum_and_shout());
+    let list = List::of_chunk(USUAL, &hum_and_shout());
     let whole = report_line(&list.meter.report());
     let (less, _) = whole.rsplit_once(' ').expect("more than a word");
     let more = format!("{whole} 0");
@@ -251,17 +265,22 @@ fn lines(tally: &mut Tally) {
     }
 }
 
-/// A measurement whose report has another n than the meter shown after it, and one whose meter has
-/// an offset, which are not read back.
+/// Measurements that are not read back: the report has another n or another margin than the meter
+/// shown after it, or that meter has another offset or another margin than it was opened with.
 fn totals(tally: &mut Tally) {
     let samples = hum_and_shout();
     let mut script = Vec::new();
-    measurement::write(1, &samples, &mut script);
+    measurement::write(USUAL, &samples, &mut script);
     let right = replay(&script);
     let wrong = right.replace("report 0 280 ", "report 0 281 ");
-    let read = |printed: &str| measurement::read(&mut printed.lines(), 1, samples.len()).is_some();
+    let read =
+        |printed: &str| measurement::read(&mut printed.lines(), USUAL, samples.len()).is_some();
     tally.equal("a measurement read back", read(&right), true);
     tally.equal("one with another n", read(&wrong), false);
     let moved = right.replace("meter 1 0 ", "meter 1 1 ");
     tally.equal("one with an offset", read(&moved), false);
+    let told = right.replace(" 21635 0\n", " 21634 0\n");
+    tally.equal("one that tells another margin", read(&told), false);
+    let held = told.replace("meter 1 0 21635 ", "meter 1 0 21634 ");
+    tally.equal("one with another margin", read(&held), false);
 }

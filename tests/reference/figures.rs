@@ -2,6 +2,7 @@
 
 mod crossings;
 mod highest;
+mod margins;
 mod offsets;
 
 use crate::block;
@@ -11,6 +12,7 @@ use crate::meter::{Meter, Report};
 use crate::percent;
 use crate::rate::RATES;
 use crate::report::report;
+use crate::setting::{Setting, USUAL_MARGIN};
 use crate::tally::Tally;
 
 /// Every figure; whether none failed.
@@ -30,6 +32,7 @@ pub fn figures() -> bool {
     offsets::offsets(&mut tally);
     crossings::crossings(&mut tally);
     highest::highest(&mut tally);
+    margins::margins(&mut tally);
     doctored(&mut tally);
     tally.finish()
 }
@@ -75,21 +78,23 @@ fn levels(tally: &mut Tally) {
 
 /// The rows of one sample (the customer's scope, "Worked figures").
 fn samples(tally: &mut Tally) {
-    let (meter, r) = Meter::open(2, 0).0.chunk(&[32767]);
+    let (meter, r) = Meter::open(Setting::usual(2)).0.chunk(&[32767]);
     tally.equal(
         "32767 at code 2",
         (r, meter.P, meter.Q),
         (0, 2285825920, 9504509),
     );
     tally.equal("32767 at code 2, report", meter.report(), Err(14));
-    let (meter, r) = Meter::open(2, 0).0.chunk(&[-1]);
+    let (meter, r) = Meter::open(Setting::usual(2)).0.chunk(&[-1]);
     tally.equal("-1 at code 2", (r, meter.P, meter.Q), (0, 69760, 290));
 }
 
-/// A meter handed in at code 2, its first a_j given (the customer's scope, "Worked figures").
+/// A meter handed in at code 2, its first a_j given (the customer's scope, "Worked figures"), with
+/// the margin 21635 (the customer's request L5).
 fn handed_in(n: u64, sq: u128, a: &[u64]) -> Meter {
     let mut meter = Meter {
         code: 2,
+        margin: USUAL_MARGIN,
         n,
         sq,
         ..Meter::zero()
@@ -98,7 +103,7 @@ fn handed_in(n: u64, sq: u128, a: &[u64]) -> Meter {
     meter
 }
 
-/// The report of a meter with these L, A, C and F, lower and upper threshold and T.
+/// The report of a meter with these L, A, C and F, lower and upper threshold and T, and no mark.
 fn report_with(
     meter: &Meter,
     [L, A, C, F]: [i64; 4],
@@ -118,6 +123,8 @@ fn report_with(
         lower,
         upper,
         T,
+        margin: meter.margin,
+        mark: false,
     }
 }
 
@@ -146,7 +153,7 @@ fn bounds(tally: &mut Tally) {
     let full = handed_in(1 << 48, 0, &[]);
     tally.equal("n 2^48, one sample", full.chunk(&[0]).1, 11);
     tally.equal("n 2^48, empty chunk", full.chunk(&[]).1, 0);
-    let fresh = Meter::open(2, 0).0;
+    let fresh = Meter::open(Setting::usual(2)).0;
     tally.equal("chunk of 4096", fresh.chunk(&[0; 4096]).1, 0);
     tally.equal("chunk of 4097", fresh.chunk(&[0; 4097]).1, 3);
 }
@@ -189,7 +196,7 @@ fn program(tally: &mut Tally) {
 
 /// A pair of samples that brings Q to a threshold exactly.
 fn exact_threshold(tally: &mut Tally) {
-    let (meter, r) = Meter::open(1, 0).0.chunk(&[9126, 11705]);
+    let (meter, r) = Meter::open(Setting::usual(1)).0.chunk(&[9126, 11705]);
     tally.equal(
         "9126, 11705 at code 1",
         (r, meter.P, meter.Q),

@@ -10,8 +10,8 @@ use crate::rate::Rate;
 /// The time constant of smoothing, in seconds (P.56, Table 2).
 const T: f64 = 0.03;
 
-/// The margin in decibels (P.56, Table 2).
-const M: f64 = 15.9;
+/// The margin in decibels (P.56, Table 2), where no smaller one is chosen.
+pub const M: f64 = 15.9;
 
 /// The counts at one threshold (P.56, clause 8.2, process 2).
 struct Counts {
@@ -35,10 +35,10 @@ impl Counts {
     /// The active-level estimate, and how far more than the margin it is above the threshold.
     ///
     /// Both are infinite where the threshold was never reached.
-    fn estimate(&self, sq: f64) -> (f64, f64) {
+    fn estimate(&self, sq: f64, margin: f64) -> (f64, f64) {
         let A_j = 10.0 * (sq / self.activity as f64).log10();
         let C_j = 20.0 * self.threshold.log10();
-        (A_j, A_j - C_j - M)
+        (A_j, A_j - C_j - margin)
     }
 }
 
@@ -67,8 +67,9 @@ fn counts(rate: &Rate, samples: &[i16]) -> Vec<Counts> {
 /// The active levels, from the lowest on: each point that is the margin above its threshold, on a
 /// straight line in decibels between two neighbouring thresholds and their estimates (P.56, clause
 /// 8.2).
-fn active_levels(sq: f64, counts: &[Counts]) -> Vec<f64> {
-    let estimates: Vec<(f64, f64)> = counts.iter().map(|count| count.estimate(sq)).collect();
+fn active_levels(sq: f64, counts: &[Counts], margin: f64) -> Vec<f64> {
+    let estimate = |count: &Counts| count.estimate(sq, margin);
+    let estimates: Vec<(f64, f64)> = counts.iter().map(estimate).collect();
     let pairs = estimates.windows(2);
     let crossings = pairs.filter(|pair| pair[0].1 >= 0.0 && pair[1].1 < 0.0);
     let between = |pair: &[(f64, f64)]| {
@@ -88,9 +89,9 @@ pub fn long_term_level(samples: &[i16]) -> f64 {
     10.0 * (squares(samples) / samples.len() as f64).log10()
 }
 
-/// The levels of all samples at each crossing, from the lowest on; none where no threshold has the
-/// margin (P.56, clause 8.2).
-pub fn crossings(rate: &Rate, samples: &[i16]) -> Vec<Levels> {
+/// The levels of all samples at each crossing, from the lowest on, with a margin in decibels; none
+/// where no threshold has it (P.56, clause 8.2).
+pub fn crossings(rate: &Rate, samples: &[i16], margin: f64) -> Vec<Levels> {
     let long_term = long_term_level(samples);
     let levels = |active: f64| Levels {
         long_term,
@@ -98,12 +99,12 @@ pub fn crossings(rate: &Rate, samples: &[i16]) -> Vec<Levels> {
         factor: long_term - active,
         percent: 100.0 * 10f64.powf((long_term - active) / 10.0),
     };
-    let active = active_levels(squares(samples), &counts(rate, samples));
+    let active = active_levels(squares(samples), &counts(rate, samples), margin);
     active.into_iter().map(levels).collect()
 }
 
 /// The levels of all samples at the crossing that is used, the highest (the customer's request L4);
 /// None where there is none.
-pub fn measure(rate: &Rate, samples: &[i16]) -> Option<Levels> {
-    crossings(rate, samples).pop()
+pub fn measure(rate: &Rate, samples: &[i16], margin: f64) -> Option<Levels> {
+    crossings(rate, samples, margin).pop()
 }

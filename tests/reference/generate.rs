@@ -3,10 +3,13 @@
 mod blocks;
 mod bounds;
 mod calls;
+mod filling;
 mod lists;
+mod meters;
 pub mod random;
 mod recording;
 mod script;
+mod settings;
 pub mod signals;
 mod thresholds;
 

@@ -19,6 +19,7 @@ mod float;
 mod generate;
 mod host;
 mod level;
+mod margins;
 mod measurement;
 mod meter;
 mod percent;
@@ -27,10 +28,11 @@ mod rate;
 mod records;
 mod replay;
 mod report;
+mod setting;
 mod speech;
 mod tally;
 
-use speech::hum;
+use speech::{hum, vehicle};
 use std::io::{self, Read, Write};
 use std::process::ExitCode;
 
@@ -114,9 +116,7 @@ fn output_samples(samples: &[i16]) -> io::Result<bool> {
 fn speech(arguments: &[&str]) -> io::Result<bool> {
     match arguments {
         ["voice", code, seed] => output_samples(&speech::voice(rate_of(code)?, seed_of(seed)?)),
-        ["hum", code, seed] => {
-            output_samples(&hum::Line::new(rate_of(code)?, seed_of(seed)?).samples())
-        }
+        ["hum", code, seed] => output_samples(&hum::line(rate_of(code)?, seed_of(seed)?).samples()),
         ["script", code] => output(&speech::script(rate_of(code)?, &samples(&input()?)?)),
         ["check", code, recording, printed] => {
             let samples = samples(&std::fs::read(recording)?)?;
@@ -127,9 +127,17 @@ fn speech(arguments: &[&str]) -> io::Result<bool> {
             let printed = std::fs::read_to_string(printed)?;
             Ok(hum::heard(rate_of(code)?, seed_of(seed)?, &printed).finish())
         }
+        ["vehicle", "script", code, seed] => {
+            output(&vehicle::script(rate_of(code)?, seed_of(seed)?))
+        }
+        ["vehicle", "check", code, seed, printed] => {
+            let printed = std::fs::read_to_string(printed)?;
+            Ok(vehicle::check(rate_of(code)?, seed_of(seed)?, &printed).finish())
+        }
         _ => error(
             "speech voice CODE SEED | speech hum CODE SEED | speech script CODE | \
-             speech check CODE SAMPLES OUTPUT | speech heard CODE SEED OUTPUT",
+             speech check CODE SAMPLES OUTPUT | speech heard CODE SEED OUTPUT | \
+             speech vehicle script CODE SEED | speech vehicle check CODE SEED OUTPUT",
         ),
     }
 }
@@ -151,12 +159,13 @@ fn run(arguments: &[&str]) -> io::Result<bool> {
         ["exact"] => counted(compare::exact(&input()?)),
         ["counts"] => lines(
             compare::counts(&input()?),
-            "a script opens with a named code and has no bad record",
+            "a script has an opening to accept and no bad record",
         ),
         ["samples"] => lines(replay::accepted_samples(&input()?), BAD_RECORD),
         ["largest"] => lines(replay::largest_size(&input()?), BAD_RECORD),
         ["crossed"] => lines(crossed::crossed(&input()?), BAD_RECORD),
         ["chosen"] => lines(chosen::chosen(&input()?), BAD_RECORD),
+        ["margins"] => lines(margins::margins(&input()?), BAD_RECORD),
         ["agrees", script, printed] => {
             let script = std::fs::read(script)?;
             counted(compare::agrees(&script, &std::fs::read_to_string(printed)?))
@@ -168,7 +177,7 @@ fn run(arguments: &[&str]) -> io::Result<bool> {
         ["speech", arguments @ ..] => speech(arguments),
         _ => error(
             "replay | report | host | generate KIND SEED COUNT | blocks CODE | figures | exact | \
-             counts | samples | largest | crossed | chosen | agrees SCRIPT OUTPUT | \
+             counts | samples | largest | crossed | chosen | margins | agrees SCRIPT OUTPUT | \
              clause11 script | clause11 check OUTPUT | speech ...",
         ),
     }

@@ -1,8 +1,9 @@
-//! One whole measurement: an opening with no offset, its samples in chunks, a report and a show.
+//! One whole measurement: an opening, its samples in chunks, a report and a show.
 
 use crate::meter::{Meter, Report, MOST_IN_CHUNK};
 use crate::printed;
 use crate::records::Record;
+use crate::setting::Setting;
 
 /// A step in decibels: 1/4096 of a doubling of power (the customer's scope, "The level logarithm").
 pub const STEP: f64 = 10.0 * std::f64::consts::LOG10_2 / 4096.0;
@@ -24,11 +25,12 @@ pub struct Measurement {
     pub meter: Meter,
 }
 
-/// Whether a report's n, s, sq and counts are those of a meter; a refused one has none.
+/// Whether a report's n, s, sq, counts and margin are those of a meter; a refused one has none.
 fn totals_of(answer: &Result<Report, u32>, meter: &Meter) -> bool {
     match answer {
-        Ok(Report { n, s, sq, a, .. }) => {
-            (n, s, sq, a) == (&meter.n, &meter.s, &meter.sq, &meter.a)
+        Ok(report) => {
+            let totals = (report.n, report.s, report.sq, report.a);
+            totals == (meter.n, meter.s, meter.sq, meter.a) && report.margin == meter.margin
         }
         Err(_) => true,
     }
@@ -45,8 +47,8 @@ fn levels(report: Report) -> Levels {
 }
 
 /// Writes the records of a measurement.
-pub fn write(code: u8, samples: &[i16], out: &mut Vec<u8>) {
-    Record::Open(code, 0).write(out);
+pub fn write(setting: Setting, samples: &[i16], out: &mut Vec<u8>) {
+    Record::Open(setting).write(out);
     for chunk in samples.chunks(MOST_IN_CHUNK) {
         Record::Chunk(chunk.to_vec()).write(out);
     }
@@ -57,11 +59,10 @@ pub fn write(code: u8, samples: &[i16], out: &mut Vec<u8>) {
 /// Reads the next lines as those of a measurement of so many samples.
 ///
 /// None where one is missing, where the opening or a chunk was refused, where the meter shown did
-/// not take those samples at that code with no offset, or where the report's totals are not that
-/// meter's.
+/// not take those samples at that setting, or where the report's totals are not that meter's.
 pub fn read<'a>(
     lines: &mut impl Iterator<Item = &'a str>,
-    code: u8,
+    setting: Setting,
     length: usize,
 ) -> Option<Measurement> {
     if lines.next()? != "open 0" {
@@ -74,7 +75,7 @@ pub fn read<'a>(
     }
     let answer = printed::report(lines.next()?)?;
     let meter = printed::meter(lines.next()?)?;
-    let opened = (meter.code, meter.offset) == (code, 0);
+    let opened = meter.setting() == setting;
     let whole = opened && meter.n == length as u64 && totals_of(&answer, &meter);
     let report = answer.map(levels);
     whole.then_some(Measurement { report, meter })

@@ -4,6 +4,7 @@ use crate::block;
 use crate::level::steps;
 use crate::percent;
 use crate::rate::{rate, Rate};
+use crate::setting::{in_range, marked, Setting};
 
 /// The most samples that a meter counts (the customer's scope, "Why a call is refused").
 pub const MOST_SAMPLES: u64 = 1 << 48;
@@ -11,14 +12,12 @@ pub const MOST_SAMPLES: u64 = 1 << 48;
 /// The most samples in a chunk (the customer's scope, "One sample").
 pub const MOST_IN_CHUNK: usize = 4096;
 
-/// The margin in steps (the customer's scope, "The report").
-pub const M: i64 = 21635;
-
-/// What a meter holds (the customer's scope, "One sample"; the customer's request L2).
+/// What a meter holds (the customer's scope, "One sample"; the customer's requests L2 and L5).
 #[derive(Clone, Debug, PartialEq)]
 pub struct Meter {
     pub code: u8,
     pub offset: i16,
+    pub margin: i64,
     pub n: u64,
     pub s: i64,
     pub sq: u128,
@@ -28,7 +27,7 @@ pub struct Meter {
     pub h: [u64; 15],
 }
 
-/// What a report holds (the customer's scope, "The report"; the customer's request L1).
+/// What a report holds (the customer's scope, "The report"; the customer's requests L1 and L5).
 #[derive(Clone, Debug, PartialEq)]
 pub struct Report {
     pub n: u64,
@@ -42,6 +41,8 @@ pub struct Report {
     pub lower: usize,
     pub upper: usize,
     pub T: u64,
+    pub margin: i64,
+    pub mark: bool,
 }
 
 /// Threshold c_j in units (the customer's scope, "One sample").
@@ -60,6 +61,7 @@ impl Meter {
         Meter {
             code: 0,
             offset: 0,
+            margin: 0,
             n: 0,
             s: 0,
             sq: 0,
@@ -70,21 +72,21 @@ impl Meter {
         }
     }
 
-    /// Opening: the fresh meter, which keeps the offset, or refusal 1 (the customer's scope, "One
-    /// sample", "Why a call is refused"; the customer's request L2).
-    pub fn open(code: u8, offset: i16) -> (Meter, u32) {
-        match rate(u32::from(code)) {
-            Some(rate) => (
-                Meter {
-                    code,
-                    offset,
-                    h: [rate.I; 15],
-                    ..Meter::zero()
-                },
-                0,
-            ),
-            None => (Meter::zero(), 1),
-        }
+    /// Opening: the fresh meter, which keeps what was chosen, or a refusal (the customer's scope,
+    /// "One sample", "Why a call is refused"; the customer's requests L2 and L5).
+    pub fn open(setting: Setting) -> (Meter, u32) {
+        let r = setting.refusal();
+        let Some(rate) = rate(u32::from(setting.code)).filter(|_| r == 0) else {
+            return (Meter::zero(), r);
+        };
+        let fresh = Meter {
+            code: setting.code,
+            offset: setting.offset,
+            margin: setting.margin,
+            h: [rate.I; 15],
+            ..Meter::zero()
+        };
+        (fresh, 0)
     }
 
     /// A chunk: the meter handed back and 0 or the refusal (the customer's scope, "One sample").
@@ -138,13 +140,14 @@ impl Meter {
     }
 
     /// Refusal 2: no measurement could hold this; any offset could be held (the customer's scope,
-    /// "Why a call is refused"; the customer's request L2).
+    /// "Why a call is refused"; the customer's requests L2 and L5).
     pub fn refusal_2(&self) -> bool {
         let Some(rate) = rate(u32::from(self.code)) else {
             return true;
         };
         let n = u128::from(self.n);
-        self.n > MOST_SAMPLES
+        !in_range(self.margin)
+            || self.n > MOST_SAMPLES
             || u128::from(self.s.unsigned_abs()) > n << 15
             || self.sq > n << 32
             || self.P > 1 << 40
@@ -209,9 +212,9 @@ impl Meter {
         Some(steps(self.sq)? - steps(u128::from(a_j))?)
     }
 
-    /// d_j where there is an A_j (the customer's scope, "The report").
+    /// d_j where there is an A_j (the customer's scope, "The report"; the customer's request L5).
     pub fn d(&self, j: usize) -> Option<i64> {
-        self.A_(j).map(|A_j| A_j - C_(j) - M)
+        self.A_(j).map(|A_j| A_j - C_(j) - self.margin)
     }
 
     /// Whether a crossing is at j (the customer's scope, "The report").
@@ -246,7 +249,7 @@ impl Meter {
     }
 
     /// The report at j, where a crossing is there (the customer's scope, "The report"; the
-    /// customer's request L1).
+    /// customer's requests L1 and L5).
     pub fn report_at(&self, j: usize) -> Option<Report> {
         if !self.crossing_at(j) {
             return None;
@@ -260,11 +263,13 @@ impl Meter {
             a: self.a,
             L,
             A,
-            C: A - M,
+            C: A - self.margin,
             F: L - A,
             lower,
             upper,
             T: percent::T(L - A),
+            margin: self.margin,
+            mark: marked(self.margin),
         })
     }
 

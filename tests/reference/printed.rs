@@ -11,20 +11,32 @@ pub fn numbers(line: &str, word: &str) -> Option<Vec<i128>> {
 /// The report of a report's line, or the number of its refusal, which stands alone.
 pub fn report(line: &str) -> Option<Result<Report, u32>> {
     match numbers(line, "report")?[..] {
-        [0, n, s, high, low, ref a @ .., L, A, C, F, lower, upper, T] => Some(Ok(Report {
-            n: u64::try_from(n).ok()?,
-            s: i64::try_from(s).ok()?,
-            sq: two_words(high, low)?,
-            a: fifteen(a)?,
-            L: i64::try_from(L).ok()?,
-            A: i64::try_from(A).ok()?,
-            C: i64::try_from(C).ok()?,
-            F: i64::try_from(F).ok()?,
-            lower: usize::try_from(lower).ok()?,
-            upper: usize::try_from(upper).ok()?,
-            T: u64::try_from(T).ok()?,
-        })),
+        [0, n, s, high, low, ref a @ .., L, A, C, F, lower, upper, T, margin, mark] => {
+            Some(Ok(Report {
+                n: u64::try_from(n).ok()?,
+                s: i64::try_from(s).ok()?,
+                sq: two_words(high, low)?,
+                a: fifteen(a)?,
+                L: i64::try_from(L).ok()?,
+                A: i64::try_from(A).ok()?,
+                C: i64::try_from(C).ok()?,
+                F: i64::try_from(F).ok()?,
+                lower: usize::try_from(lower).ok()?,
+                upper: usize::try_from(upper).ok()?,
+                T: u64::try_from(T).ok()?,
+                margin: i64::try_from(margin).ok()?,
+                mark: flag(mark)?,
+            }))
+        }
         [r] if r != 0 => Some(Err(u32::try_from(r).ok()?)),
+        _ => None,
+    }
+}
+
+/// 1 for true, 0 for false.
+fn flag(value: i128) -> Option<bool> {
+    match value {
+        0 | 1 => Some(value == 1),
         _ => None,
     }
 }
@@ -41,22 +53,23 @@ fn fifteen(values: &[i128]) -> Option<[u64; 15]> {
     numbers?.try_into().ok()
 }
 
-/// The meter of a show's line: 38 values, all but the offset and s unsigned.
+/// The meter of a show's line: 39 values, all but the offset, the margin and s unsigned.
 pub fn meter(line: &str) -> Option<Meter> {
     let values = numbers(line, "meter")?;
-    if values.len() != 38 {
+    if values.len() != 39 {
         return None;
     }
     let word = |i: usize| u64::try_from(values[i]).ok();
     Some(Meter {
         code: u8::try_from(values[0]).ok()?,
         offset: i16::try_from(values[1]).ok()?,
-        n: word(2)?,
-        s: i64::try_from(values[3]).ok()?,
-        sq: two_words(values[4], values[5])?,
-        P: word(6)?,
-        Q: word(7)?,
-        a: fifteen(&values[8..23])?,
-        h: fifteen(&values[23..])?,
+        margin: i64::try_from(values[2]).ok()?,
+        n: word(3)?,
+        s: i64::try_from(values[4]).ok()?,
+        sq: two_words(values[5], values[6])?,
+        P: word(7)?,
+        Q: word(8)?,
+        a: fifteen(&values[9..24])?,
+        h: fifteen(&values[24..])?,
     })
 }

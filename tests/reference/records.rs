@@ -1,11 +1,11 @@
 //! The records of a recorded list of calls, read and written; numbers are little-endian.
 
 use crate::meter::Meter;
+use crate::setting::Setting;
 
 /// One record.
 pub enum Record {
-    /// A code and an offset.
-    Open(u8, i16),
+    Open(Setting),
     Chunk(Vec<i16>),
     Block(Vec<u8>),
     Report,
@@ -90,10 +90,18 @@ impl<'a> Reader<'a> {
         self.samples(count)
     }
 
-    /// The 38 values of a meter.
+    /// What is chosen at opening, with which the values of a meter begin as well.
+    fn setting(&mut self) -> Option<Setting> {
+        Some(Setting {
+            code: self.number(1)? as u8,
+            offset: self.sample()?,
+            margin: self.number(8)? as i64,
+        })
+    }
+
+    /// The 39 values of a meter.
     fn meter(&mut self) -> Option<Meter> {
-        let code = self.number(1)? as u8;
-        let offset = self.sample()?;
+        let setting = self.setting()?;
         let n = self.number(8)?;
         let s = self.number(8)? as i64;
         let sq = self.two_words()?;
@@ -102,8 +110,9 @@ impl<'a> Reader<'a> {
         let a = self.fifteen()?;
         let h = self.fifteen()?;
         Some(Meter {
-            code,
-            offset,
+            code: setting.code,
+            offset: setting.offset,
+            margin: setting.margin,
             n,
             s,
             sq,
@@ -117,7 +126,7 @@ impl<'a> Reader<'a> {
     /// One record; None also where the first byte is unknown.
     fn record(&mut self) -> Option<Record> {
         match self.number(1)? {
-            1 => Some(Record::Open(self.number(1)? as u8, self.sample()?)),
+            1 => Some(Record::Open(self.setting()?)),
             2 => Some(Record::Chunk(self.chunk()?)),
             3 => Some(Record::Block(self.bytes()?)),
             4 => Some(Record::Report),
@@ -173,10 +182,16 @@ fn write_words(number: u128, out: &mut Vec<u8>) {
     out.extend(low.to_le_bytes());
 }
 
-/// Writes the 38 values of a meter.
+/// Writes what is chosen at opening.
+fn write_setting(setting: &Setting, out: &mut Vec<u8>) {
+    out.push(setting.code);
+    out.extend(setting.offset.to_le_bytes());
+    out.extend(setting.margin.to_le_bytes());
+}
+
+/// Writes the 39 values of a meter.
 fn write_meter(meter: &Meter, out: &mut Vec<u8>) {
-    out.push(meter.code);
-    out.extend(meter.offset.to_le_bytes());
+    write_setting(&meter.setting(), out);
     out.extend(meter.n.to_le_bytes());
     out.extend(meter.s.to_le_bytes());
     write_words(meter.sq, out);
@@ -189,9 +204,9 @@ impl Record {
     /// Writes the record.
     pub fn write(&self, out: &mut Vec<u8>) {
         match self {
-            Record::Open(code, offset) => {
-                out.extend([1, *code]);
-                out.extend(offset.to_le_bytes());
+            Record::Open(setting) => {
+                out.push(1);
+                write_setting(setting, out);
             }
             Record::Chunk(samples) => {
                 out.push(2);

@@ -21,9 +21,7 @@ impl Player {
     /// Plays one record and gives its line.
     pub fn answer(&mut self, record: &Record) -> String {
         match record {
-            Record::Open(code, offset) => {
-                format!("open {}", self.keep(Meter::open(*code, *offset)))
-            }
+            Record::Open(setting) => format!("open {}", self.keep(Meter::open(*setting))),
             Record::Chunk(samples) => format!("chunk {}", self.keep(self.meter.chunk(samples))),
             Record::Block(bytes) => format!("block {}", self.keep(self.meter.block(bytes))),
             Record::Report => report_line(&self.meter.report()),
@@ -56,7 +54,7 @@ pub fn report_line(answer: &Result<Report, u32>) -> String {
     let (high, low) = words(report.sq);
     let counts = report.a.map(|a_j| a_j.to_string()).join(" ");
     format!(
-        "report 0 {} {} {high} {low} {counts} {} {} {} {} {} {} {}",
+        "report 0 {} {} {high} {low} {counts} {} {} {} {} {} {} {} {} {}",
         report.n,
         report.s,
         report.L,
@@ -65,16 +63,18 @@ pub fn report_line(answer: &Result<Report, u32>) -> String {
         report.F,
         report.lower,
         report.upper,
-        report.T
+        report.T,
+        report.margin,
+        u8::from(report.mark)
     )
 }
 
-/// The line of a show: the 38 values.
+/// The line of a show: the 39 values.
 pub fn meter_line(meter: &Meter) -> String {
     let (high, low) = words(meter.sq);
     let mut line = format!(
-        "meter {} {} {} {} {high} {low}",
-        meter.code, meter.offset, meter.n, meter.s
+        "meter {} {} {} {} {} {high} {low}",
+        meter.code, meter.offset, meter.margin, meter.n, meter.s
     );
     for number in [meter.P, meter.Q].iter().chain(&meter.a).chain(&meter.h) {
         line += &format!(" {number}");
@@ -97,27 +97,37 @@ pub fn replay(bytes: &[u8]) -> String {
     lines
 }
 
+/// Each record of a script with the meter after it; None where the script has a bad record.
+pub fn played(script: &[u8]) -> Option<Vec<(Record, Meter)>> {
+    let (records, bad) = read(script);
+    let mut player = Player::new();
+    let after = |record: Record| {
+        player.answer(&record);
+        (record, player.meter.clone())
+    };
+    let played = records.into_iter().map(after).collect();
+    (!bad).then_some(played)
+}
+
 /// The calls that took samples: the meter before each and its samples; None where the script has a
 /// bad record.
 ///
 /// n grows by a call's samples just where the call is accepted (the customer's scope, "One sample").
 pub fn taken(script: &[u8]) -> Option<Vec<(Meter, Vec<i16>)>> {
-    let (records, bad) = read(script);
-    let mut player = Player::new();
+    let mut before = Meter::zero();
     let mut calls = Vec::new();
-    for record in &records {
-        let before = player.meter.clone();
-        player.answer(record);
+    for (record, after) in played(script)? {
         let samples = match record {
-            Record::Chunk(samples) => samples.clone(),
-            Record::Block(bytes) => block::samples(bytes),
-            _ => continue,
+            Record::Chunk(samples) => samples,
+            Record::Block(bytes) => block::samples(&bytes),
+            _ => Vec::new(),
         };
-        if player.meter.n > before.n {
+        if !samples.is_empty() && after.n > before.n {
             calls.push((before, samples));
         }
+        before = after;
     }
-    (!bad).then_some(calls)
+    Some(calls)
 }
 
 /// The sizes of the samples that the accepted calls took; None where the script has a bad record.

@@ -4,6 +4,7 @@ use crate::block;
 use crate::meter::{Meter, Report};
 use crate::rate::{Rate, RATES};
 use crate::records::words;
+use crate::setting::Setting;
 
 /// The rate it measures at, code 1 (the customer's scope, "Worked figures").
 pub const RATE: &Rate = &RATES[0];
@@ -11,9 +12,9 @@ pub const RATE: &Rate = &RATES[0];
 /// What it prints for an input: the refused blocks, then the measurement.
 ///
 /// A short last block counts as one and is handed on as it is (the customer's scope, "Worked figures").
-/// The offset is 0 (the customer's request L2).
+/// The offset is 0 and the margin 21635 (the customer's requests L2 and L5).
 pub fn report(input: &[u8]) -> String {
-    let (mut meter, _) = Meter::open(RATE.code, 0);
+    let (mut meter, _) = Meter::open(Setting::usual(RATE.code));
     let mut lines = String::new();
     for (i, bytes) in input.chunks(block::LENGTH).enumerate() {
         let (next, r) = meter.block(bytes);

@@ -1,11 +1,14 @@
 //! Speech measured by a replay program and by floating-point method B, side by side.
 
 pub mod hum;
+mod line;
+pub mod vehicle;
 mod voice;
 
 use crate::float;
 use crate::measurement::{self, Levels, STEP};
 use crate::rate::Rate;
+use crate::setting::Setting;
 use crate::tally::Tally;
 pub use voice::voice;
 
@@ -42,7 +45,7 @@ const PERCENT_BOUND: f64 = 0.15;
 /// The script of one measurement of the samples.
 pub fn script(rate: &Rate, samples: &[i16]) -> Vec<u8> {
     let mut out = Vec::new();
-    measurement::write(rate.code, samples, &mut out);
+    measurement::write(Setting::usual(rate.code), samples, &mut out);
     out
 }
 
@@ -50,16 +53,25 @@ pub fn script(rate: &Rate, samples: &[i16]) -> Vec<u8> {
 pub fn check(rate: &Rate, samples: &[i16], printed: &str) -> Tally {
     let mut tally = Tally::new();
     let mut lines = printed.lines();
-    let measurement = measurement::read(&mut lines, rate.code, samples.len());
+    let setting = Setting::usual(rate.code);
+    let measurement = measurement::read(&mut lines, setting, samples.len());
     tally.equal("lines left over", lines.count(), 0);
     let measured = measurement.and_then(|measurement| measurement.report.ok());
     tally.holds("levels printed", measured.is_some());
-    let expected = float::measure(rate, samples);
+    let expected = float::measure(rate, samples, float::M);
     tally.holds("levels in floating point", expected.is_some());
     if let (Some(measured), Some(expected)) = (measured, expected) {
         compare(&mut tally, &measured, &expected);
     }
     tally
+}
+
+/// Levels in words.
+fn told(rate: &Rate, name: &str, levels: &Levels) -> String {
+    format!(
+        "code {}, {name}: {:.2} dB, active {:.2} % of the time",
+        rate.code, levels.active, levels.percent
+    )
 }
 
 /// Compares the levels printed with those in floating point, with a line for each.

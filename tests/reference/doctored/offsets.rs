@@ -5,10 +5,15 @@ use crate::block;
 use crate::meter::{Meter, Report};
 use crate::records::Record;
 use crate::replay::{meter_line, report_line};
+use crate::setting::Setting;
 use crate::tally::Tally;
 
-/// The offset of the list.
+/// The offset of the list, and what it opens with.
 const OFFSET: i16 = -20000;
+const SETTING: Setting = Setting {
+    offset: OFFSET,
+    ..Setting::usual(1)
+};
 
 /// The samples of its three calls, of sizes 10, 3000 and 45000.
 const CALLS: [[i16; 100]; 3] = [[-19990; 100], [-17000; 100], [25000; 100]];
@@ -26,12 +31,12 @@ fn list() -> List {
         Record::Chunk(CALLS[2].to_vec()),
         Record::Chunk(Vec::new()),
     ];
-    List::new(OFFSET, &calls)
+    List::new(SETTING, &calls)
 }
 
 /// The meter after the calls, each taken at an offset of its own.
 fn taken_at(offsets: [i16; 3]) -> Meter {
-    let mut meter = Meter::open(1, OFFSET).0;
+    let mut meter = Meter::open(SETTING).0;
     for (offset, samples) in offsets.into_iter().zip(CALLS) {
         (meter, _) = Meter { offset, ..meter }.chunk(&samples);
     }
@@ -49,7 +54,7 @@ fn kept(offsets: [i16; 3]) -> Meter {
 /// The right meter but for what it takes for x - o.
 fn taking(right: &Meter, difference: impl Fn(i16) -> i16) -> Meter {
     let samples: Vec<i16> = CALLS.concat().into_iter().map(difference).collect();
-    let (meter, _) = Meter::open(1, 0).0.chunk(&samples);
+    let (meter, _) = Meter::open(Setting::usual(1)).0.chunk(&samples);
     Meter {
         offset: right.offset,
         s: right.s,
@@ -154,11 +159,5 @@ fn refused(tally: &mut Tally, list: &List) {
 /// A meter shown without its offset.
 fn values(tally: &mut Tally, list: &List) {
     let shown = meter_line(&list.meter).replace("meter 1 -20000 ", "meter 1 ");
-    let lines = format!(
-        "{}{shown}\n{}\n",
-        list.lines,
-        report_line(&list.meter.report())
-    );
-    let clauses = ["38 values", "a meter shown before it"];
-    list.fails(tally, "37 values", &lines, &clauses);
+    list.breaks_shown(tally, &shown, &["39 values", "a meter shown before it"]);
 }

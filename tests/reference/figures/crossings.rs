@@ -3,6 +3,7 @@
 use crate::crossed::crossed;
 use crate::meter::Meter;
 use crate::records::Record;
+use crate::setting::Setting;
 use crate::tally::Tally;
 
 /// A script of these records.
@@ -44,7 +45,7 @@ fn one_sample(tally: &mut Tally) {
         (1 << 40, 1 << 40, "past\n"),
     ];
     for (P, Q, lines) in rows {
-        let (fresh, _) = Meter::open(2, 0);
+        let (fresh, _) = Meter::open(Setting::usual(2));
         let found = told(Meter { P, Q, ..fresh }, &[0]);
         tally.equal(&format!("P {P}, Q {Q}"), found.as_deref(), Some(lines));
     }
@@ -54,11 +55,11 @@ fn one_sample(tally: &mut Tally) {
 /// call and in two.
 fn pair(tally: &mut Tally) {
     let lines = "at 6\nleap\nup 0\nup 1\nup 2\nup 3\nup 4\nup 5\nup 6\n";
-    let (fresh, _) = Meter::open(1, 0);
+    let (fresh, _) = Meter::open(Setting::usual(1));
     let found = told(fresh, &[9126, 11705]);
     tally.equal("crossed by the pair", found.as_deref(), Some(lines));
     let apart = [
-        Record::Open(1, 0),
+        Record::Open(Setting::usual(1)),
         Record::Chunk(vec![9126]),
         Record::Chunk(vec![11705]),
     ];
@@ -68,7 +69,7 @@ fn pair(tally: &mut Tally) {
 
 /// A chunk that is too long, a meter that refusal 2 stops, and a bad record.
 fn nothing_taken(tally: &mut Tally) {
-    let (fresh, _) = Meter::open(2, 0);
+    let (fresh, _) = Meter::open(Setting::usual(2));
     let found = told(fresh.clone(), &[32767; 4097]);
     tally.equal("crossed by 4097", found.as_deref(), Some(""));
     let refused = Meter {

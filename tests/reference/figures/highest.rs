@@ -6,6 +6,7 @@ use super::{handed_in, report_with};
 use crate::chosen::chosen;
 use crate::meter::Meter;
 use crate::records::Record;
+use crate::setting::Setting;
 use crate::tally::Tally;
 
 /// What the report at a crossing has: A, C and F, the lower and the upper threshold, T.
@@ -50,18 +51,29 @@ fn two(tally: &mut Tally) {
     row(tally, "two", meter, 40960, &crossings, "2 change\n");
 }
 
-/// Three crossings, each between two counts that are one doubling apart: A_j is 24576 at 0, 40960
-/// at 2, 57344 at 4, and 4096 more right above each, where d_j goes from 2941 to -1155.
-fn three(tally: &mut Tally) {
+/// A meter with three crossings, each between two counts that are one doubling apart: A_j is 24576
+/// at 0, 40960 at 2, 57344 at 4, and 4096 more right above each, where d_j goes from 2941 to -1155.
+pub fn with_three() -> Meter {
     let mut a = [1 << 11; 15];
     a[..5].copy_from_slice(&[1 << 20, 1 << 19, 1 << 16, 1 << 15, 1 << 12]);
-    let meter = handed_in(1 << 20, 1 << 26, &a);
+    handed_in(1 << 20, 1 << 26, &a)
+}
+
+/// The reports at those three.
+fn three(tally: &mut Tally) {
     let crossings = [
         ([27517, 5882, -2941], 0, 1, 6079),
         ([43901, 22266, -19325], 2, 3, 379),
         ([60285, 38650, -35709], 4, 5, 23),
     ];
-    row(tally, "three", meter, 24576, &crossings, "3 change\n");
+    row(
+        tally,
+        "three",
+        with_three(),
+        24576,
+        &crossings,
+        "3 change\n",
+    );
 }
 
 /// A change of sign and, above it, a d_j of 0, after which d_j is negative.
@@ -128,7 +140,7 @@ fn none(tally: &mut Tally) {
 fn nothing_chosen(tally: &mut Tally) {
     let found = chosen(&script(&[
         Record::Report,
-        Record::Open(2, 0),
+        Record::Open(Setting::usual(2)),
         Record::Report,
     ]));
     tally.equal("chosen for refusals", found.as_deref(), Some(""));

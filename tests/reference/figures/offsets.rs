@@ -5,11 +5,20 @@ use crate::block;
 use crate::generate::signals::around;
 use crate::meter::{Meter, MOST_SAMPLES};
 use crate::rate::RATES;
+use crate::setting::Setting;
 use crate::speech::voice;
 use crate::tally::Tally;
 
 /// Offsets at the ends of the range, next to none, and in between.
 const OFFSETS: [i16; 7] = [-32768, -20000, -1, 0, 1, 300, 32767];
+
+/// A code with an offset and the usual margin.
+fn setting(code: u8, offset: i16) -> Setting {
+    Setting {
+        offset,
+        ..Setting::usual(code)
+    }
+}
 
 /// Every figure.
 pub fn offsets(tally: &mut Tally) {
@@ -26,12 +35,14 @@ fn openings(tally: &mut Tally) {
         let fresh = Meter {
             code: 2,
             offset,
+            margin: 21635,
             h: [1600; 15],
             ..Meter::zero()
         };
-        tally.equal("fresh", Meter::open(2, offset), (fresh, 0));
+        tally.equal("fresh", Meter::open(setting(2, offset)), (fresh, 0));
         for code in [0, 4, 255] {
-            tally.equal("refused", Meter::open(code, offset), (Meter::zero(), 1));
+            let refused = Meter::open(setting(code, offset));
+            tally.equal("refused", refused, (Meter::zero(), 1));
         }
     }
     tally.equal("offset of all zeros", Meter::zero().offset, 0);
@@ -45,16 +56,16 @@ fn samples(tally: &mut Tally) {
         sq: 4294836225,
         P: 4571721600,
         Q: 19009309,
-        ..Meter::open(2, 32767).0
+        ..Meter::open(setting(2, 32767)).0
     };
     (furthest.a[0], furthest.h[0]) = (1, 0);
     let silent = Meter {
         n: 1,
         s: -1,
-        ..Meter::open(2, -1).0
+        ..Meter::open(setting(2, -1)).0
     };
     for (x, expected) in [(-32768, furthest), (-1, silent)] {
-        let (fresh, _) = Meter::open(2, expected.offset);
+        let (fresh, _) = Meter::open(setting(2, expected.offset));
         let name = format!("{x} at code 2, offset {}", expected.offset);
         let by_block = fresh.block(&block::make(2, 0, &[x]));
         tally.equal(&name, fresh.chunk(&[x]), (expected.clone(), 0));
@@ -66,7 +77,7 @@ fn samples(tally: &mut Tally) {
 fn bounds(tally: &mut Tally) {
     for n in [0, 1, (1 << 32) - 1, 1 << 32, MOST_SAMPLES] {
         for offset in OFFSETS {
-            let (fresh, _) = Meter::open(2, offset);
+            let (fresh, _) = Meter::open(setting(2, offset));
             let (lowest, most) = (-i128::from(n) << 15, u128::from(n) << 32);
             let at_bounds = Meter {
                 n,
@@ -99,7 +110,7 @@ fn loudest(tally: &mut Tally) {
         n: MOST_SAMPLES,
         sq: 1 << 80,
         a: [MOST_SAMPLES; 15],
-        ..Meter::open(2, 32767).0
+        ..Meter::open(setting(2, 32767)).0
     };
     let report = report_with(&meter, [131072, 131072, 109437, 0], 13, 14, 10000);
     tally.equal("sq 2^80", meter.report(), Ok(report));
@@ -108,7 +119,7 @@ fn loudest(tally: &mut Tally) {
 /// A voice around an offset is measured as it is around 0: only the offset and s are others.
 fn moved(tally: &mut Tally) {
     let voice = &voice(&RATES[0], 1)[..4000];
-    let (still, _) = Meter::open(1, 0).0.chunk(voice);
+    let (still, _) = Meter::open(setting(1, 0)).0.chunk(voice);
     for offset in OFFSETS {
         let samples = around(offset, voice);
         let expected = Meter {
@@ -116,7 +127,7 @@ fn moved(tally: &mut Tally) {
             s: samples.iter().map(|&x| i64::from(x)).sum(),
             ..still.clone()
         };
-        let (moved, _) = Meter::open(1, offset).0.chunk(&samples);
+        let (moved, _) = Meter::open(setting(1, offset)).0.chunk(&samples);
         tally.equal(&format!("a voice around {offset}"), moved, expected);
     }
 }

@@ -1,153 +1,17 @@
-//! Meters to hand in: plausible ones, ones made for a report, and ones at and just past each bound
-//! of refusal 2.
+//! Meters to hand in at and just past each bound of refusal 2.
 
+use super::meters::{falling, most_squares, plausible, MOST_ENVELOPE};
 use super::random::Random;
-use crate::level::steps;
-use crate::meter::{Meter, M, MOST_SAMPLES};
+use super::settings::{setting, REFUSED_MARGINS};
+use crate::meter::{Meter, MOST_SAMPLES};
 use crate::rate::rate;
-
-/// The bound of P and Q.
-pub const MOST_ENVELOPE: u64 = 1 << 40;
-
-/// The bound of sq at n samples.
-pub fn most_squares(n: u64) -> u128 {
-    u128::from(n) << 32
-}
-
-/// Counts that never rise, from one no larger than n.
-fn falling(random: &mut Random, n: u64) -> [u64; 15] {
-    let any = random.between(0, n);
-    let mut next = random.pick(&[n, n, any]);
-    let mut a = [0; 15];
-    for a_j in &mut a {
-        *a_j = next;
-        next = match random.below(4) {
-            0 => next,
-            1 => next / random.pick(&[2, 3, 4, 8, 64, 4096]),
-            2 => random.between(0, next),
-            _ => next - next.min(random.below(10)),
-        };
-    }
-    a
-}
-
-/// Hangovers that never fall, none above I.
-fn rising(random: &mut Random, I: u64) -> [u64; 15] {
-    let mut h = [0; 15];
-    for h_j in &mut h {
-        *h_j = random.between(0, I);
-    }
-    h.sort();
-    h
-}
-
-/// A meter that refusal 2 lets pass, with 1 to 2^48 - 1 samples.
-pub fn plausible(random: &mut Random, code: u8) -> Meter {
-    let rate = rate(u32::from(code)).expect("a named code");
-    let bits = random.between(1, 48);
-    let n = random.of_length(bits) as u64;
-    let s = random.between(0, n << 15) as i64;
-    let bits = random.between(1, 80);
-    Meter {
-        code,
-        offset: random.offset(),
-        n,
-        s: random.pick(&[s, -s]),
-        sq: random.of_length(bits).min(most_squares(n)),
-        P: random.between(0, MOST_ENVELOPE),
-        Q: random.between(0, MOST_ENVELOPE),
-        a: falling(random, n),
-        h: rising(random, rate.I),
-    }
-}
-
-/// A meter whose d_j is 0 or next to it for some j.
-pub fn tuned(random: &mut Random, code: u8) -> Meter {
-    let j = random.below(15) as usize;
-    let bits = random.between(1, 30);
-    let a_j = random.of_length(bits) as u64;
-    let level = steps(u128::from(a_j)).expect("a_j is above 0");
-    let sq = least_of_level(level + 8192 * j as i64 + M - 1 + random.below(3) as i64);
-    let n = a_j.max((sq >> 32) as u64 + 1) + random.below(1000);
-    let mut a = [a_j / random.pick(&[1, 2, 16, 1 << 31]); 15];
-    a[..=j].fill(a_j);
-    Meter {
-        n,
-        s: 0,
-        sq,
-        a,
-        ..plausible(random, code)
-    }
-}
-
-/// A meter of this F, 0 or below, at a crossing anywhere up to the threshold of j = 13.
-///
-/// A_j is the same for every j, so that F is lev(a_j) - lev(n). Down to -60000 there is always such
-/// an a_j, since n has at least 30 bits; where F is too low for n, a_j is 1.
-pub fn of_factor(random: &mut Random, code: u8, F: i64) -> Meter {
-    let bits = random.between(30, 48);
-    let n = random.of_length(bits);
-    let a_j = least_of_level(steps(n).expect("n is above 0") + F);
-    let above = M + random.between(0, 8192 * 13) as i64;
-    let sq = least_of_level(steps(a_j).expect("a_j is above 0") + above);
-    Meter {
-        n: n as u64,
-        s: 0,
-        sq,
-        a: [a_j as u64; 15],
-        ..plausible(random, code)
-    }
-}
-
-/// A meter whose d_j waver around 0, so that it has many crossings, up to one at every j; in some
-/// the highest thresholds were never reached.
-///
-/// Each d_j is drawn from -4096 to 4096, and is lower only where a_j cannot be small enough. So from
-/// one j to the next it falls by at most 8192, which it does where a_j stays the same; and a_0 is at
-/// most n, since with a d_0 of 0 its lev would be 4096 or more below that of n.
-pub fn wavering(random: &mut Random, code: u8) -> Meter {
-    let bits = random.between(30, 48);
-    let n = random.of_length(bits);
-    let level = steps(n).expect("n is above 0") - random.between(4096, 20480) as i64;
-    let some = random.between(1, 14) as usize;
-    let reached = random.pick(&[15, 15, some]);
-    let mut a = [0; 15];
-    for (j, a_j) in a[..reached].iter_mut().enumerate() {
-        *a_j = least_of_level(level - 8192 * j as i64 - near_zero(random)) as u64;
-    }
-    Meter {
-        n: n as u64,
-        s: 0,
-        sq: least_of_level(level + M),
-        a,
-        ..plausible(random, code)
-    }
-}
-
-/// A d_j: one time in three 0, one time in three next to it, else any up to 4096 either way.
-fn near_zero(random: &mut Random) -> i64 {
-    let any = random.between(0, 8192) as i64 - 4096;
-    random.pick(&[0, 0, 1, -1, any, any])
-}
-
-/// The least number below 2^80 whose lev is not below a level.
-fn least_of_level(level: i64) -> u128 {
-    let (mut low, mut high) = (1, 1 << 80);
-    while low < high {
-        let middle = (low + high) / 2;
-        if steps(middle) < Some(level) {
-            low = middle + 1;
-        } else {
-            high = middle;
-        }
-    }
-    low
-}
+use crate::setting::{LEAST_MARGIN, MOST_MARGIN};
 
 /// Meters at and just past each bound of refusal 2.
 pub fn bounds(random: &mut Random, code: u8) -> Vec<Meter> {
     let mut meters = codes(random, code);
     meters.extend(offsets(random, code));
+    meters.extend(margins(random, code));
     meters.extend(totals(random, code));
     meters.extend(full_totals(random, code));
     meters.extend(squares_of_two_words(random, code));
@@ -185,6 +49,16 @@ fn offsets(random: &mut Random, code: u8) -> Vec<Meter> {
         meters.push(Meter { offset, ..meter });
     }
     meters
+}
+
+/// Margins, at the ends of the range and outside it.
+fn margins(random: &mut Random, code: u8) -> Vec<Meter> {
+    let with = |margin| Meter {
+        margin,
+        ..plausible(random, code)
+    };
+    let margins = [LEAST_MARGIN, MOST_MARGIN].into_iter();
+    margins.chain(REFUSED_MARGINS).map(with).collect()
 }
 
 /// n, s and sq.
@@ -339,7 +213,7 @@ fn hangovers(random: &mut Random, code: u8) -> Vec<Meter> {
 
 /// Meters of no samples, of which only the envelopes may be above 0.
 fn unstarted(random: &mut Random, code: u8) -> Vec<Meter> {
-    let (fresh, _) = Meter::open(code, random.offset());
+    let (fresh, _) = Meter::open(setting(random, code));
     let mut counted = fresh.clone();
     counted.a[0] = 1;
     vec![

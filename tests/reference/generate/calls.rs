@@ -1,8 +1,11 @@
 //! Long scripts of calls on one line.
 
-use super::bounds::{bounds, most_squares, of_factor, plausible, tuned, wavering};
+use super::bounds::bounds;
+use super::filling::{last_blocks, last_chunks, two_words};
+use super::meters::{of_factor, plausible, tuned, wavering};
 use super::random::Random;
 use super::script::Script;
+use super::settings::{refused_setting, setting, MARGINS, REFUSED_MARGINS};
 use super::signals::{around, furthest, noise, placed, signal};
 use super::thresholds::{approach, targets};
 use crate::block;
@@ -10,12 +13,14 @@ use crate::meter::{Meter, MOST_IN_CHUNK, MOST_SAMPLES};
 use crate::percent::{difference, WHOLE};
 use crate::rate::rate;
 use crate::records::Record;
+use crate::setting::Setting;
 
-/// A script of about so many records: the bounds of refusal 2, then calls of all kinds; and at the
-/// end each threshold met exactly and just missed.
+/// A script of about so many records: openings at the bounds of the margin, the bounds of refusal 2,
+/// then calls of all kinds; and at the end each threshold met exactly and just missed.
 pub fn calls(seed: u64, count: u64) -> Vec<u8> {
     let mut script = Script::new(seed);
     let code = 1 + (seed % 3) as u8;
+    openings(&mut script, code);
     for meter in bounds(&mut script.random, code) {
         if script.records < count {
             tried(&mut script, meter);
@@ -28,6 +33,18 @@ pub fn calls(seed: u64, count: u64) -> Vec<u8> {
         brought(&mut script, target);
     }
     script.bytes
+}
+
+/// Openings with every margin at and past a bound, without a named code and with one, and what the
+/// last leaves.
+fn openings(script: &mut Script, named: u8) {
+    for margin in MARGINS.into_iter().chain(REFUSED_MARGINS) {
+        for code in [0, named] {
+            let setting = setting(&mut script.random, code);
+            script.add(Record::Open(Setting { margin, ..setting }));
+        }
+        script.add(Record::Show);
+    }
 }
 
 /// Hands a meter in and makes each kind of call on it.
@@ -73,23 +90,22 @@ fn step(script: &mut Script) {
     }
 }
 
-/// A named code.
-fn named(script: &mut Script) -> u8 {
-    script.random.between(1, 3) as u8
-}
-
 /// The hangover of the meter, or any where its code is not named.
 fn hangover(script: &Script) -> u64 {
     rate(u32::from(script.meter().code)).map_or(139, |rate| rate.I)
 }
 
-/// An opening, mostly with a named code, and what it leaves.
+/// An opening, mostly with a named code and a margin in the range, and what it leaves.
 fn open(script: &mut Script) {
     let code = script
         .random
         .pick(&[1, 1, 1, 2, 2, 2, 3, 3, 3, 0, 4, 5, 255]);
-    let offset = script.random.offset();
-    script.add(Record::Open(code, offset));
+    let setting = if script.random.once_in(6) {
+        refused_setting(&mut script.random, code)
+    } else {
+        setting(&mut script.random, code)
+    };
+    script.add(Record::Open(setting));
     script.add(Record::Show);
 }
 
@@ -159,9 +175,9 @@ fn bursts(script: &mut Script) {
 
 /// The two samples that bring Q to a threshold exactly, together or apart.
 fn pair(script: &mut Script) {
-    let offset = script.random.offset();
-    let pair = around(offset, &[9126, 11705]);
-    script.add(Record::Open(1, offset));
+    let setting = setting(&mut script.random, 1);
+    let pair = around(setting.offset, &[9126, 11705]);
+    script.add(Record::Open(setting));
     if script.random.once_in(2) {
         script.add(Record::Chunk(pair));
     } else {
@@ -175,7 +191,7 @@ fn pair(script: &mut Script) {
 
 /// A meter, and the samples that bring its envelope to a target, with none or a few after them.
 fn brought(script: &mut Script, target: u64) {
-    let code = named(script);
+    let code = script.named();
     let (meter, mut call) = approach(&mut script.random, code, target);
     script.add(Record::Load(meter));
     let more = script.random.pick(&[0, 0, 1, 3]);
@@ -189,90 +205,9 @@ fn brought(script: &mut Script, target: u64) {
     script.add(Record::Show);
 }
 
-/// A meter whose sq is just below 2^64, and samples that bring it past, whatever the offset.
-fn two_words(script: &mut Script) {
-    let code = named(script);
-    let n = (1 << 34) + script.random.below(1 << 34);
-    let sq = (1u128 << 64) - u128::from(script.random.between(1, 1 << 31));
-    let meter = Meter {
-        n,
-        sq,
-        ..plausible(&mut script.random, code)
-    };
-    let s = meter.s.clamp(-(1 << 49), 1 << 49);
-    let a = meter.a.map(|a_j| a_j.min(n));
-    script.add(Record::Load(Meter { s, a, ..meter }));
-    script.add(Record::Report);
-    for x in [-32768, 32767, -32768] {
-        script.add(Record::Chunk(vec![x]));
-        script.add(Record::Show);
-    }
-    script.add(Record::Report);
-}
-
-/// A meter of 2^48 - k samples, its totals at the bounds or not.
-fn nearly_full(script: &mut Script, k: u64) -> Meter {
-    let code = named(script);
-    let meter = plausible(&mut script.random, code);
-    let n = MOST_SAMPLES - k;
-    let most = i128::from(n) << 15;
-    let full = most_squares(n);
-    match script.random.below(3) {
-        0 => Meter {
-            n,
-            s: -most as i64,
-            sq: full,
-            a: [n; 15],
-            ..meter
-        },
-        1 => Meter {
-            n,
-            s: most.min(i128::from(i64::MAX)) as i64,
-            sq: full,
-            ..meter
-        },
-        _ => Meter { n, ..meter },
-    }
-}
-
-/// Chunks that fill a meter exactly, and by one too many.
-fn last_chunks(script: &mut Script) {
-    let few = script.random.between(0, 40);
-    let many = script.random.between(0, 4095);
-    let k = script.random.pick(&[few, few, many, 4095, 4096]);
-    let meter = nearly_full(script, k);
-    script.add(Record::Load(meter));
-    let x = script.random.pick(&[-32768, 32767, 1]);
-    for length in [k + 1, k] {
-        script.add(Record::Chunk(vec![x; length as usize]));
-        script.add(Record::Show);
-    }
-    script.add(Record::Report);
-    for length in [0, 1, 4096, 4097] {
-        script.add(Record::Chunk(vec![x; length]));
-    }
-}
-
-/// Blocks that fill a meter exactly, and by one too many.
-fn last_blocks(script: &mut Script) {
-    let k = script.random.between(1, 247);
-    let meter = nearly_full(script, k);
-    script.add(Record::Load(meter));
-    for count in [k + 1, k] {
-        let misplaced = script.misplaced();
-        script.add(Record::Block(misplaced));
-        let bytes = script.fitting(count);
-        script.add(Record::Block(bytes));
-        script.add(Record::Show);
-    }
-    let bytes = script.fitting(1);
-    script.add(Record::Block(bytes));
-    script.add(Record::Report);
-}
-
 /// One of the meters at the bounds of refusal 2.
 fn bound(script: &mut Script) {
-    let code = named(script);
+    let code = script.named();
     let mut meters = bounds(&mut script.random, code);
     let i = script.random.below(meters.len() as u64) as usize;
     tried(script, meters.swap_remove(i));
@@ -280,7 +215,7 @@ fn bound(script: &mut Script) {
 
 /// A meter of some making, and its report.
 fn reported(script: &mut Script, make: impl Fn(&mut Random, u8) -> Meter) {
-    let code = named(script);
+    let code = script.named();
     let meter = make(&mut script.random, code);
     script.add(Record::Load(meter));
     script.add(Record::Report);

@@ -2,29 +2,69 @@
 
 use super::random::Random;
 use super::script::Script;
+use super::settings::{self, MARGINS, REFUSED_MARGINS};
 use super::signals::{
     around, full_scale, furthest, grazing, hum_and_exact_shout, hum_and_shout, noise_within,
     placed, signal,
 };
 use crate::block;
+use crate::meter::Meter;
 use crate::rate::{Rate, RATES};
 use crate::records::Record;
+use crate::setting::{Setting, USUAL_MARGIN};
 use crate::speech::voice;
+use std::iter;
 
 /// About the most samples of a list.
 const TOTAL: usize = 600;
 
-/// The turns of the lists for several crossings.
-const TWO_CROSSINGS: u64 = 5;
-const THREE_CROSSINGS: u64 = 6;
+/// So few samples that the calls of a list take all of them, but for very few lists.
+const ALL_TAKEN: usize = 300;
 
-/// One list: an opening, so many calls, a show and a report.
+/// What a list is for.
+#[derive(Clone, Copy)]
+enum Purpose {
+    /// This refusal of the report.
+    Refusal(u32),
+    TwoCrossings,
+    ThreeCrossings,
+    Speech,
+    /// A level at this margin.
+    Margin(i64),
+    /// Whatever comes of it.
+    Any,
+}
+
+/// The purposes that have a list in their turn, beside the margins.
+const TURNS: [Purpose; 8] = [
+    Purpose::Refusal(12),
+    Purpose::Refusal(13),
+    Purpose::Refusal(14),
+    Purpose::Refusal(15),
+    Purpose::Refusal(16),
+    Purpose::TwoCrossings,
+    Purpose::ThreeCrossings,
+    Purpose::Speech,
+];
+
+/// One list: an opening, so many calls, a show and a report; one seed in three has openings to refuse
+/// before it, each of the margins in its turn.
 pub fn list(seed: u64, count: u64) -> Vec<u8> {
     let mut script = Script::new(seed);
-    let rate = rate(&mut script.random, seed);
-    let offset = offset(&mut script.random, seed);
-    script.add(Record::Open(rate.code, offset));
-    let samples = samples(&mut script.random, rate, offset, seed);
+    let purpose = purpose(seed);
+    let rate = rate(&mut script.random, purpose);
+    let usual = Setting {
+        offset: offset(&mut script.random, seed),
+        ..Setting::usual(rate.code)
+    };
+    let samples = samples(&mut script.random, rate, usual.offset, purpose);
+    let (meter, _) = Meter::open(usual).0.chunk(&samples);
+    let margin = margin(&mut script.random, &meter, purpose);
+    if seed % 3 == 2 {
+        let refused = REFUSED_MARGINS[(seed / 3) as usize % REFUSED_MARGINS.len()];
+        refused_openings(&mut script, rate.code, refused);
+    }
+    script.add(Record::Open(Setting { margin, ..usual }));
     let mut rest = &samples[..];
     for _ in 0..count {
         if script.random.once_in(4) {
@@ -38,17 +78,27 @@ pub fn list(seed: u64, count: u64) -> Vec<u8> {
     script.bytes
 }
 
-/// The turn of a list: one seed in three is for one answer of a report, each in its turn; the
-/// others are for none.
-fn turn(seed: u64) -> Option<u64> {
-    (seed % 3 == 0).then_some(seed / 3 % 8)
+/// The purpose of a list: of one seed in three one of the turns, of one in six one of the margins at
+/// the bounds, each in its turn.
+fn purpose(seed: u64) -> Purpose {
+    let i = seed as usize;
+    match i % 6 {
+        0 | 3 => TURNS[i / 3 % TURNS.len()],
+        1 => Purpose::Margin(MARGINS[i / 6 % MARGINS.len()]),
+        _ => Purpose::Any,
+    }
 }
 
-/// The rate of a list: mostly, and for several crossings always, that of code 1.
-fn rate(random: &mut Random, seed: u64) -> &'static Rate {
+/// The rate of a list: mostly that of code 1, and always where at others it would take more samples.
+fn rate(random: &mut Random, purpose: Purpose) -> &'static Rate {
     let any = random.pick(&[0, 0, 0, 0, 1, 2]);
-    let several = matches!(turn(seed), Some(TWO_CROSSINGS | THREE_CROSSINGS));
-    &RATES[if several { 0 } else { any }]
+    match purpose {
+        Purpose::Refusal(15)
+        | Purpose::TwoCrossings
+        | Purpose::ThreeCrossings
+        | Purpose::Margin(_) => &RATES[0],
+        _ => &RATES[any],
+    }
 }
 
 /// The offset of a list; one seed in four has it at an end of the range.
@@ -60,21 +110,59 @@ fn offset(random: &mut Random, seed: u64) -> i16 {
     }
 }
 
-/// The samples of a list: by its turn for refusals 12 to 16, for two crossings, for three, and for
-/// speech. The others have any samples.
-fn samples(random: &mut Random, rate: &Rate, offset: i16, seed: u64) -> Vec<i16> {
-    let samples = match turn(seed) {
-        None => return any_samples(random, rate, offset),
-        Some(0) => Vec::new(),
-        Some(1) => vec![0; TOTAL],
-        Some(2) => noise_within(random, 1, TOTAL),
-        Some(3) => noise_within(random, 6, TOTAL),
-        Some(4) => return loud(random, offset),
-        Some(TWO_CROSSINGS) => hum_and_shout(random),
-        Some(THREE_CROSSINGS) => hum_and_exact_shout(1 << random.below(8)),
-        _ => spoken(random, rate),
+/// The samples of a list.
+fn samples(random: &mut Random, rate: &Rate, offset: i16, purpose: Purpose) -> Vec<i16> {
+    let samples = match purpose {
+        Purpose::Any => return any_samples(random, rate, offset),
+        Purpose::Refusal(12) => Vec::new(),
+        Purpose::Refusal(13) => vec![0; TOTAL],
+        Purpose::Refusal(14) => noise_within(random, 1, TOTAL),
+        Purpose::Refusal(15) => noise_within(random, 6, ALL_TAKEN),
+        Purpose::Refusal(_) => return loud(random, offset),
+        Purpose::TwoCrossings => hum_and_shout(random),
+        Purpose::ThreeCrossings => hum_and_exact_shout(1 << random.below(8)),
+        Purpose::Speech => spoken(random, rate),
+        Purpose::Margin(margin) => of_level(random, rate, margin),
     };
     around(offset, &samples)
+}
+
+/// The margin of a list whose samples lead to this meter: for refusal 15 d_0 is just negative, and
+/// others often have a d_j of 0 or next to it. Three crossings are made for the usual margin.
+fn margin(random: &mut Random, meter: &Meter, purpose: Purpose) -> i64 {
+    match purpose {
+        Purpose::Margin(margin) => margin,
+        Purpose::ThreeCrossings => USUAL_MARGIN,
+        Purpose::TwoCrossings => settings::of_several(random, meter),
+        Purpose::Refusal(15) => settings::above_first(random, meter),
+        _ if random.once_in(2) => settings::near_crossing(random, meter),
+        _ => settings::margin(random),
+    }
+}
+
+/// Openings with a margin to refuse, without a named code and with one, and a call on what each
+/// leaves.
+fn refused_openings(script: &mut Script, named: u8, margin: i64) {
+    for code in [0, named] {
+        let offset = script.random.offset();
+        script.add(Record::Open(Setting {
+            code,
+            offset,
+            margin,
+        }));
+        script.add(Record::Chunk(vec![1]));
+    }
+}
+
+/// A signal for which a rate has a level at a margin.
+fn of_level(random: &mut Random, rate: &Rate, margin: i64) -> Vec<i16> {
+    let (fresh, _) = Meter::open(Setting {
+        margin,
+        ..Setting::usual(rate.code)
+    });
+    let mut signals = iter::repeat_with(|| signal(random, rate.I, ALL_TAKEN));
+    let has_level = |samples: &Vec<i16>| fresh.chunk(samples).0.report().is_ok();
+    signals.find(has_level).expect("signals without end")
 }
 
 /// A few of the loudest samples, the last of them as far from the offset as a sample can be.

@@ -3,6 +3,7 @@
 use super::random::Random;
 use crate::meter::{c, Meter};
 use crate::rate::Rate;
+use crate::setting::Setting;
 
 /// A signal of some kind; its pauses outlast a hangover of I samples.
 pub fn signal(random: &mut Random, I: u64, length: usize) -> Vec<i16> {
@@ -125,7 +126,7 @@ pub fn grazing(random: &mut Random, rate: &Rate, length: usize) -> Vec<i16> {
     let start = random.between(60, 200) as usize;
     let most = 1 << random.between(0, 10);
     let mut samples = noise_within(random, most, start);
-    let (meter, _) = Meter::open(rate.code, 0).0.chunk(&samples);
+    let (meter, _) = Meter::open(Setting::usual(rate.code)).0.chunk(&samples);
     let unreached = (0..15).find(|&j| meter.a[j] == 0);
     let j = unreached.expect("quiet noise leaves thresholds unreached");
     let target = c(j) - 16 + random.below(24);

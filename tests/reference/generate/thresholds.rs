@@ -1,6 +1,6 @@
 //! Meters to hand in whose envelope the next samples bring onto a threshold, or just under it.
 
-use super::bounds::{plausible, MOST_ENVELOPE};
+use super::meters::{plausible, MOST_ENVELOPE};
 use super::random::Random;
 use super::signals::{around, noise_within};
 use crate::meter::{c, Meter};

@@ -1,10 +1,13 @@
 //! Steady hum and rare loud speech on one line (the customer's request L4), and what a replay
 //! program measured there.
 
+use super::line::Line;
+use super::told;
 use super::voice::Voice;
 use crate::float;
 use crate::measurement::{self, Levels};
 use crate::rate::Rate;
+use crate::setting::Setting;
 use crate::tally::Tally;
 use std::f64::consts::TAU;
 
@@ -47,50 +50,31 @@ const NEAR: f64 = 1.0;
 /// That is 12.6 dB too low a level, of which the energy of the hum makes up 0.67 dB.
 const FAR: f64 = 10.0;
 
-/// What is on the line, hum and speech apart, sample by sample.
-pub struct Line {
-    hum: Vec<i16>,
-    speech: Vec<i16>,
-}
-
-impl Line {
-    /// The line of a seed.
-    pub fn new(rate: &Rate, seed: u64) -> Line {
-        let mut voice = Voice::new(rate, seed);
-        voice.phrases(SECONDS, 1.0, PAUSE.0, PAUSE.1);
-        let phase = TAU * MAINS / rate.samples_per_second as f64;
-        let hum = |i: usize| (HUM * (phase * i as f64).sin()).round() as i16;
-        let hum: Vec<i16> = (0..voice.spoken.len()).map(hum).collect();
-        let spoken: f64 = voice.spoken.iter().map(|x| x * x).sum();
-        let loudness = (ENERGY * float::squares(&hum) / spoken).sqrt();
-        let speech = voice.spoken.iter().map(|x| (loudness * x).round() as i16);
-        Line {
-            speech: speech.collect(),
-            hum,
-        }
-    }
-
-    /// Both together; what is too loud for 16 bits clips.
-    pub fn samples(&self) -> Vec<i16> {
-        let pairs = self.hum.iter().zip(&self.speech);
-        pairs.map(|(hum, x)| hum.saturating_add(*x)).collect()
-    }
+/// The line of a seed.
+pub fn line(rate: &Rate, seed: u64) -> Line {
+    let mut voice = Voice::new(rate, seed);
+    voice.phrases(SECONDS, 1.0, PAUSE.0, PAUSE.1);
+    let phase = TAU * MAINS / rate.samples_per_second as f64;
+    let hum = |i: usize| (HUM * (phase * i as f64).sin()).round() as i16;
+    let hum = (0..voice.spoken.len()).map(hum).collect();
+    Line::new(&voice, hum, ENERGY)
 }
 
 /// Checks what a replay program printed for the script of a seed's samples, and shows the levels of
 /// the hum alone, of the speech alone, at the lowest crossing and as reported.
 pub fn heard(rate: &Rate, seed: u64, printed: &str) -> Tally {
     let mut tally = Tally::new();
-    let line = Line::new(rate, seed);
+    let line = line(rate, seed);
     let samples = line.samples();
-    let measurement = measurement::read(&mut printed.lines(), rate.code, samples.len());
+    let setting = Setting::usual(rate.code);
+    let measurement = measurement::read(&mut printed.lines(), setting, samples.len());
     let reported = measurement.and_then(|measurement| measurement.report.ok());
     tally.holds("levels printed", reported.is_some());
-    let crossings = float::crossings(rate, &samples);
+    let crossings = float::crossings(rate, &samples, float::M);
     tally.holds("two crossings or more", crossings.len() >= 2);
-    let alone = float::measure(rate, &line.speech);
+    let alone = float::measure(rate, &line.speech, float::M);
     tally.holds("levels of the speech alone", alone.is_some());
-    let hum = float::long_term_level(&line.hum);
+    let hum = float::long_term_level(&line.rest);
     println!("code {}, hum alone: {hum:.2} dB", rate.code);
     if let (Some(reported), Some(lowest), Some(alone)) = (reported, crossings.first(), alone) {
         let told = |name: &str, levels: &Levels| told(rate, name, levels);
@@ -101,12 +85,4 @@ pub fn heard(rate: &Rate, seed: u64, printed: &str) -> Tally {
         tally.shown(&told("reported", &reported), off(&reported) <= NEAR);
     }
     tally
-}
-
-/// Levels in words.
-fn told(rate: &Rate, name: &str, levels: &Levels) -> String {
-    format!(
-        "code {}, {name}: {:.2} dB, active {:.2} % of the time",
-        rate.code, levels.active, levels.percent
-    )
 }

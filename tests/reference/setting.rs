@@ -1,0 +1,76 @@
+//! What is chosen at opening and kept in the meter, and which choices are refused.
+
+use crate::meter::Meter;
+use crate::rate::rate;
+
+/// The least margin and the most, in steps (the customer's request L5).
+pub const LEAST_MARGIN: i64 = 1;
+pub const MOST_MARGIN: i64 = 22314;
+
+/// The margin below which a report has the mark, in steps: 15.4 dB (the customer's request L5).
+pub const MARKED_BELOW: i64 = 20955;
+
+/// The margin of the scope, in steps: 15.9 dB (the customer's scope, "The report").
+pub const USUAL_MARGIN: i64 = 21635;
+
+/// A rate code, an offset and a margin (the customer's scope, "One sample"; the customer's requests
+/// L2 and L5).
+#[derive(Clone, Copy, Debug, PartialEq)]
+pub struct Setting {
+    pub code: u8,
+    pub offset: i16,
+    pub margin: i64,
+}
+
+impl Setting {
+    /// A code with no offset and the usual margin, as the report program opens (the customer's
+    /// requests L2 and L5).
+    pub const fn usual(code: u8) -> Setting {
+        Setting {
+            code,
+            offset: 0,
+            margin: USUAL_MARGIN,
+        }
+    }
+
+    /// The lowest refusal of an opening, else 0 (the customer's scope, "Why a call is refused"; the
+    /// customer's request L5).
+    pub fn refusal(&self) -> u32 {
+        if rate(u32::from(self.code)).is_none() {
+            1
+        } else if !in_range(self.margin) {
+            17
+        } else {
+            0
+        }
+    }
+}
+
+impl Meter {
+    /// What was chosen at opening (the customer's requests L2 and L5).
+    pub fn setting(&self) -> Setting {
+        Setting {
+            code: self.code,
+            offset: self.offset,
+            margin: self.margin,
+        }
+    }
+
+    /// The same meter with another margin.
+    pub fn at_margin(&self, margin: i64) -> Meter {
+        Meter {
+            margin,
+            ..self.clone()
+        }
+    }
+}
+
+/// Whether a margin is one to open with and to hold (the customer's request L5).
+pub fn in_range(margin: i64) -> bool {
+    (LEAST_MARGIN..=MOST_MARGIN).contains(&margin)
+}
+
+/// Whether a report at a margin has the mark (the customer's request L5).
+pub fn marked(margin: i64) -> bool {
+    margin < MARKED_BELOW
+}

@@ -1,0 +1,110 @@
+//! Rare speech in the steady noise of a vehicle (the customer's request L5), and what a replay
+//! program measured there at the usual margin and at a smaller one.
+
+use super::line::Line;
+use super::voice::Voice;
+use super::{told, ACTIVE_BOUND};
+use crate::float;
+use crate::generate::random::Random;
+use crate::measurement::{self, Levels, STEP};
+use crate::rate::Rate;
+use crate::setting::{Setting, USUAL_MARGIN};
+use crate::tally::Tally;
+
+/// How long the line is measured, in seconds.
+const SECONDS: f64 = 120.0;
+
+/// The least and the most seconds from one phrase to the next, which are active for about one second
+/// of each seven.
+const PAUSE: (f64, f64) = (4.0, 10.0);
+
+/// The root mean square of the noise, in quantizing intervals.
+const NOISE: f64 = 100.0;
+
+/// The energy of the speech, relative to that of the noise.
+///
+/// While it lasts the speech is then some 14 dB above the noise, which is less than the usual
+/// margin: what is that far below the speech is below the noise as well, and all the time is active.
+const ENERGY: f64 = 4.0;
+
+/// The smaller margin in steps, 10 dB, which leaves the threshold above the noise.
+const MARGIN: i64 = 13606;
+
+/// How far from the speech alone the level at the smaller margin may be, in decibels.
+///
+/// The energy of the noise, which is in the sum of squares, lifts it by 10 log(1 + 1/4), 0.97 dB.
+/// The rest is for the higher threshold, at which less of the speech is active. Over a hundred seeds
+/// at code 1 the two came to 1.18 to 1.84 dB, but for one seed with a syllable so loud that it has a
+/// crossing of its own.
+const NEAR: f64 = 2.0;
+
+/// How far from the speech alone the level at the usual margin is at least, in decibels: it is that
+/// of all the time, of which the speech takes about a seventh. Over those seeds it was 5.95 to 8.18.
+const FAR: f64 = 5.0;
+
+/// The line of a seed.
+fn line(rate: &Rate, seed: u64) -> Line {
+    let mut voice = Voice::new(rate, seed);
+    voice.phrases(SECONDS, 1.0, PAUSE.0, PAUSE.1);
+    let mut random = Random::new(!seed);
+    let noise = voice
+        .spoken
+        .iter()
+        .map(|_| (NOISE * random.gaussian()).round() as i16);
+    Line::new(&voice, noise.collect(), ENERGY)
+}
+
+/// What is opened with for a margin.
+fn setting(rate: &Rate, margin: i64) -> Setting {
+    Setting {
+        margin,
+        ..Setting::usual(rate.code)
+    }
+}
+
+/// The script of a seed's line, measured at the usual margin and at the smaller one.
+pub fn script(rate: &Rate, seed: u64) -> Vec<u8> {
+    let samples = line(rate, seed).samples();
+    let mut out = Vec::new();
+    for margin in [USUAL_MARGIN, MARGIN] {
+        measurement::write(setting(rate, margin), &samples, &mut out);
+    }
+    out
+}
+
+/// The levels that a replay program printed for a margin, where they are those in floating point.
+fn measured<'a>(
+    lines: &mut impl Iterator<Item = &'a str>,
+    rate: &Rate,
+    samples: &[i16],
+    margin: i64,
+) -> Option<Levels> {
+    let measurement = measurement::read(lines, setting(rate, margin), samples.len())?;
+    let measured = measurement.report.ok()?;
+    let expected = float::measure(rate, samples, STEP * margin as f64)?;
+    let agree = (measured.active - expected.active).abs() <= ACTIVE_BOUND;
+    agree.then_some(measured)
+}
+
+/// Checks what a replay program printed for the script, and shows the levels of the speech alone and
+/// at either margin.
+pub fn check(rate: &Rate, seed: u64, printed: &str) -> Tally {
+    let mut tally = Tally::new();
+    let line = line(rate, seed);
+    let (samples, mut lines) = (line.samples(), printed.lines());
+    let usual = measured(&mut lines, rate, &samples, USUAL_MARGIN);
+    let smaller = measured(&mut lines, rate, &samples, MARGIN);
+    let alone = float::measure(rate, &line.speech, float::M);
+    tally.equal("lines left over", lines.count(), 0);
+    let (Some(usual), Some(smaller), Some(alone)) = (usual, smaller, alone) else {
+        tally.holds("levels, and as in floating point", false);
+        return tally;
+    };
+    println!("{}", told(rate, "speech alone", &alone));
+    let off = |levels: &Levels| (levels.active - alone.active).abs();
+    let name = format!("margin {USUAL_MARGIN}");
+    tally.shown(&told(rate, &name, &usual), off(&usual) >= FAR);
+    let name = format!("margin {MARGIN}");
+    tally.shown(&told(rate, &name, &smaller), off(&smaller) <= NEAR);
+    tally
+}
