@@ -1,7 +1,7 @@
 -- What is known of a margin in range: it is above 0, and small.
 use mathlib.Core.Bool.{true, false}
 use mathlib.Core.Path.{_≡_, subst}
-use Prim.Native.Nat.{ℕ, _≤_}
+use Prim.Native.Nat.{_≤_}
 use native.Mathlib.Omega.{arith}
 use borrow.Author.Tests.{lt-ltb, ltb-false}
 use lib.Dec.{T}

@@ -2,17 +2,16 @@
 use borrow.Author.Needs.{needs}
 use borrow.Author.Tests.{ne-eqb, eq-eqb, eqb-false}
 use mathlib.Core.Bool.{Bool, true, false}
-use mathlib.Core.Path.{_≡_, sym, ap, _∙_, subst}
+use mathlib.Core.Path.{_≡_, sym, ap, _∙_}
 use Prim.Native.Nat.{ℕ}
 use native.Mathlib.Nat.{pos-of-ne-zero}
 use native.Mathlib.Omega.{arith}
 use lib.Dec.{eqb}
-use Rattle.level.specs.declared.Steps.{Steps}
 use Rattle.level.specs.Types.{twoWords}
 use Rattle.crossing.specs.declared.Found.{Found}
 use Rattle.crossing.specs.declared.Found.the-variants.{At, Below, Above}
 use Rattle.crossing.specs.Inner.FindLevels.{Measured}
-use Rattle.crossing.specs.Searched.{said, searched}
+use Rattle.crossing.specs.Searched.{said}
 use Rattle.meter.specs.declared.Meter.{Meter}
 use Rattle.meter.specs.Reports.{marginOf, noSamples, noSignal, noActivity}
 use Rattle.meter.specs.Calls.{reportCall}
