@@ -57,8 +57,8 @@ fn fields(meter: &Meter, report: &Report) -> Vec<Clause> {
         ("C at the crossing", report.C == expected.C),
         ("F at the crossing", report.F == expected.F),
         ("the lower threshold", report.lower == expected.lower),
-        ("the report's margin", report.margin == meter.margin),
-        ("the mark", report.mark == marked(meter.margin)),
+        ("the report's margin", report.margin == meter.setting.margin),
+        ("the mark", report.mark == marked(meter.setting.margin)),
     ];
     [&at_crossing[..], &percentage(report.T, expected.F)].concat()
 }

@@ -160,12 +160,12 @@ impl Case {
 
     /// What was measured beside what is expected, and whether it is within the tolerances.
     fn result(&self, measurement: &Measurement) -> (String, bool) {
-        match (&self.test.figures, &measurement.report) {
-            (None, Err(r)) => no_level(*r, measurement),
+        match (&self.test.figures, measurement.levels()) {
+            (None, Err(r)) => no_level(r, measurement),
             (None, Ok(_)) => ("levels for refusal 13".to_string(), false),
             (Some(_), Err(r)) => (format!("refusal {r} for levels"), false),
             (Some(figures), Ok(levels)) => {
-                let readings = self.readings(levels, figures);
+                let readings = self.readings(&levels, figures);
                 let texts: Vec<String> = readings.iter().map(Reading::text).collect();
                 (texts.join(", "), readings.iter().all(Reading::within))
             }

@@ -59,7 +59,7 @@ impl Comparison {
     }
 
     /// An opening is accepted, or refused with its number, just where it is to be; E is fed the code
-    /// and the offset (the customer's scope, "One sample"; the customer's request L2).
+    /// and the offset (the customer's scope, "One sample"; the customer's requests L2 and L5).
     fn open(&mut self, name: &str, setting: &Setting, line: &str) {
         let r = setting.refusal();
         let right = line == format!("open {r}");
@@ -96,8 +96,8 @@ fn show(tally: &mut Tally, name: &str, exact: &Exact, margin: i64, line: &str) -
     tally.holds(&format!("{name} 39 values"), meter.is_some());
     let meter = meter?;
     let clauses = [
-        ("offset", meter.offset == exact.offset),
-        ("margin", meter.margin == margin),
+        ("offset", meter.setting.offset == exact.offset),
+        ("margin", meter.setting.margin == margin),
         ("n", meter.n == exact.y),
         ("s", meter.s == exact.s),
         ("sq", meter.sq == exact.sq),

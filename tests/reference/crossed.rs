@@ -17,7 +17,7 @@ pub fn crossed(script: &[u8]) -> Option<String> {
 
 /// Follows the envelope over the samples of an accepted call, from the meter before it on.
 fn follow(mut meter: Meter, samples: &[i16], lines: &mut BTreeSet<String>) {
-    let rate = rate(u32::from(meter.code)).expect("refusal 2 is past");
+    let rate = rate(u32::from(meter.setting.code)).expect("refusal 2 is past");
     for &x in samples {
         let before = meter.Q;
         meter.sample(rate, x);

@@ -12,7 +12,7 @@ use crate::meter::{Meter, Report};
 use crate::percent;
 use crate::rate::RATES;
 use crate::report::report;
-use crate::setting::{Setting, USUAL_MARGIN};
+use crate::setting::Setting;
 use crate::tally::Tally;
 
 /// Every figure; whether none failed.
@@ -93,8 +93,7 @@ fn samples(tally: &mut Tally) {
 /// the margin 21635 (the customer's request L5).
 fn handed_in(n: u64, sq: u128, a: &[u64]) -> Meter {
     let mut meter = Meter {
-        code: 2,
-        margin: USUAL_MARGIN,
+        setting: Setting::usual(2),
         n,
         sq,
         ..Meter::zero()
@@ -123,7 +122,7 @@ fn report_with(
         lower,
         upper,
         T,
-        margin: meter.margin,
+        margin: meter.setting.margin,
         mark: false,
     }
 }

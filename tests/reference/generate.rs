@@ -9,7 +9,7 @@ mod meters;
 pub mod random;
 mod recording;
 mod script;
-mod settings;
+pub mod settings;
 pub mod signals;
 mod thresholds;
 

@@ -21,7 +21,9 @@ pub fn margins(script: &[u8]) -> Option<String> {
 fn line(record: &Record, after: &Meter) -> Option<String> {
     match record {
         Record::Open(setting) => Some(format!("open {} {}\n", setting.margin, setting.refusal())),
-        Record::Load(meter) => refused(meter).map(|r| format!("load {} {r}\n", meter.margin)),
+        Record::Load(meter) => {
+            refused(meter).map(|r| format!("load {} {r}\n", meter.setting.margin))
+        }
         Record::Report => {
             let report = after.report().ok()?;
             Some(format!(

@@ -20,9 +20,16 @@ pub struct Levels {
 
 /// A measurement as a replay program printed it.
 pub struct Measurement {
-    /// The levels, or the number of the report's refusal.
-    pub report: Result<Levels, u32>,
+    /// The report, or the number of its refusal.
+    pub report: Result<Report, u32>,
     pub meter: Meter,
+}
+
+impl Measurement {
+    /// The levels, or the number of the report's refusal.
+    pub fn levels(&self) -> Result<Levels, u32> {
+        self.report.as_ref().map(levels).map_err(|&r| r)
+    }
 }
 
 /// Whether a report's n, s, sq, counts and margin are those of a meter; a refused one has none.
@@ -30,14 +37,14 @@ fn totals_of(answer: &Result<Report, u32>, meter: &Meter) -> bool {
     match answer {
         Ok(report) => {
             let totals = (report.n, report.s, report.sq, report.a);
-            totals == (meter.n, meter.s, meter.sq, meter.a) && report.margin == meter.margin
+            totals == (meter.n, meter.s, meter.sq, meter.a) && report.margin == meter.setting.margin
         }
         Err(_) => true,
     }
 }
 
 /// The levels of a report; its T is in hundredths of a percent (the customer's request L1).
-fn levels(report: Report) -> Levels {
+fn levels(report: &Report) -> Levels {
     Levels {
         long_term: STEP * report.L as f64,
         active: STEP * report.A as f64,
@@ -73,10 +80,9 @@ pub fn read<'a>(
             return None;
         }
     }
-    let answer = printed::report(lines.next()?)?;
+    let report = printed::report(lines.next()?)?;
     let meter = printed::meter(lines.next()?)?;
-    let opened = meter.setting() == setting;
-    let whole = opened && meter.n == length as u64 && totals_of(&answer, &meter);
-    let report = answer.map(levels);
+    let opened = meter.setting == setting;
+    let whole = opened && meter.n == length as u64 && totals_of(&report, &meter);
     whole.then_some(Measurement { report, meter })
 }

@@ -15,9 +15,7 @@ pub const MOST_IN_CHUNK: usize = 4096;
 /// What a meter holds (the customer's scope, "One sample"; the customer's requests L2 and L5).
 #[derive(Clone, Debug, PartialEq)]
 pub struct Meter {
-    pub code: u8,
-    pub offset: i16,
-    pub margin: i64,
+    pub setting: Setting,
     pub n: u64,
     pub s: i64,
     pub sq: u128,
@@ -59,9 +57,7 @@ impl Meter {
     /// The meter of all zeros (the customer's scope, "Why a call is refused").
     pub fn zero() -> Meter {
         Meter {
-            code: 0,
-            offset: 0,
-            margin: 0,
+            setting: Setting::zero(),
             n: 0,
             s: 0,
             sq: 0,
@@ -80,9 +76,7 @@ impl Meter {
             return (Meter::zero(), r);
         };
         let fresh = Meter {
-            code: setting.code,
-            offset: setting.offset,
-            margin: setting.margin,
+            setting,
             h: [rate.I; 15],
             ..Meter::zero()
         };
@@ -127,7 +121,7 @@ impl Meter {
         if self.refusal_2() {
             return 2;
         }
-        let r = block::refusal(bytes, u32::from(self.code));
+        let r = block::refusal(bytes, u32::from(self.setting.code));
         if r != 0 {
             r
         } else if block::before(bytes) != self.n {
@@ -142,11 +136,11 @@ impl Meter {
     /// Refusal 2: no measurement could hold this; any offset could be held (the customer's scope,
     /// "Why a call is refused"; the customer's requests L2 and L5).
     pub fn refusal_2(&self) -> bool {
-        let Some(rate) = rate(u32::from(self.code)) else {
+        let Some(rate) = rate(u32::from(self.setting.code)) else {
             return true;
         };
         let n = u128::from(self.n);
-        !in_range(self.margin)
+        !in_range(self.setting.margin)
             || self.n > MOST_SAMPLES
             || u128::from(self.s.unsigned_abs()) > n << 15
             || self.sq > n << 32
@@ -165,7 +159,7 @@ impl Meter {
 
     /// The meter after samples in order (the customer's scope, "One sample").
     fn after(&self, samples: &[i16]) -> Meter {
-        let rate = rate(u32::from(self.code)).expect("refusal 2 is past");
+        let rate = rate(u32::from(self.setting.code)).expect("refusal 2 is past");
         let mut meter = self.clone();
         for &x in samples {
             meter.sample(rate, x);
@@ -175,7 +169,7 @@ impl Meter {
 
     /// |x - o|, which is up to 65535 (the customer's request L2).
     pub fn size(&self, x: i16) -> u16 {
-        x.abs_diff(self.offset)
+        x.abs_diff(self.setting.offset)
     }
 
     /// One sample: s takes it as it is, all else its size (the customer's scope, "One sample"; the
@@ -214,7 +208,7 @@ impl Meter {
 
     /// d_j where there is an A_j (the customer's scope, "The report"; the customer's request L5).
     pub fn d(&self, j: usize) -> Option<i64> {
-        self.A_(j).map(|A_j| A_j - C_(j) - self.margin)
+        self.A_(j).map(|A_j| A_j - C_(j) - self.setting.margin)
     }
 
     /// Whether a crossing is at j (the customer's scope, "The report").
@@ -256,6 +250,7 @@ impl Meter {
         }
         let L = self.L()?;
         let (A, lower, upper) = self.active(j)?;
+        let margin = self.setting.margin;
         Some(Report {
             n: self.n,
             s: self.s,
@@ -263,13 +258,13 @@ impl Meter {
             a: self.a,
             L,
             A,
-            C: A - self.margin,
+            C: A - margin,
             F: L - A,
             lower,
             upper,
             T: percent::T(L - A),
-            margin: self.margin,
-            mark: marked(self.margin),
+            margin,
+            mark: marked(margin),
         })
     }
 

@@ -1,6 +1,7 @@
 //! The lines that a replay program prints, read back.
 
 use crate::meter::{Meter, Report};
+use crate::setting::Setting;
 
 /// The numbers after a line's first word, where that word is the one wanted.
 pub fn numbers(line: &str, word: &str) -> Option<Vec<i128>> {
@@ -61,9 +62,11 @@ pub fn meter(line: &str) -> Option<Meter> {
     }
     let word = |i: usize| u64::try_from(values[i]).ok();
     Some(Meter {
-        code: u8::try_from(values[0]).ok()?,
-        offset: i16::try_from(values[1]).ok()?,
-        margin: i64::try_from(values[2]).ok()?,
+        setting: Setting {
+            code: u8::try_from(values[0]).ok()?,
+            offset: i16::try_from(values[1]).ok()?,
+            margin: i64::try_from(values[2]).ok()?,
+        },
         n: word(3)?,
         s: i64::try_from(values[4]).ok()?,
         sq: two_words(values[5], values[6])?,

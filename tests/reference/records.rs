@@ -101,25 +101,15 @@ impl<'a> Reader<'a> {
 
     /// The 39 values of a meter.
     fn meter(&mut self) -> Option<Meter> {
-        let setting = self.setting()?;
-        let n = self.number(8)?;
-        let s = self.number(8)? as i64;
-        let sq = self.two_words()?;
-        let P = self.number(8)?;
-        let Q = self.number(8)?;
-        let a = self.fifteen()?;
-        let h = self.fifteen()?;
         Some(Meter {
-            code: setting.code,
-            offset: setting.offset,
-            margin: setting.margin,
-            n,
-            s,
-            sq,
-            P,
-            Q,
-            a,
-            h,
+            setting: self.setting()?,
+            n: self.number(8)?,
+            s: self.number(8)? as i64,
+            sq: self.two_words()?,
+            P: self.number(8)?,
+            Q: self.number(8)?,
+            a: self.fifteen()?,
+            h: self.fifteen()?,
         })
     }
 
@@ -191,7 +181,7 @@ fn write_setting(setting: &Setting, out: &mut Vec<u8>) {
 
 /// Writes the 39 values of a meter.
 fn write_meter(meter: &Meter, out: &mut Vec<u8>) {
-    write_setting(&meter.setting(), out);
+    write_setting(&meter.setting, out);
     out.extend(meter.n.to_le_bytes());
     out.extend(meter.s.to_le_bytes());
     write_words(meter.sq, out);

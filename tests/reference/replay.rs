@@ -4,6 +4,7 @@ use crate::block;
 use crate::level::lev;
 use crate::meter::{Meter, Report};
 use crate::records::{read, words, Record};
+use crate::setting::Setting;
 
 /// The meter that the records act on.
 pub struct Player {
@@ -71,10 +72,15 @@ pub fn report_line(answer: &Result<Report, u32>) -> String {
 
 /// The line of a show: the 39 values.
 pub fn meter_line(meter: &Meter) -> String {
+    let Setting {
+        code,
+        offset,
+        margin,
+    } = meter.setting;
     let (high, low) = words(meter.sq);
     let mut line = format!(
-        "meter {} {} {} {} {} {high} {low}",
-        meter.code, meter.offset, meter.margin, meter.n, meter.s
+        "meter {code} {offset} {margin} {} {} {high} {low}",
+        meter.n, meter.s
     );
     for number in [meter.P, meter.Q].iter().chain(&meter.a).chain(&meter.h) {
         line += &format!(" {number}");

@@ -23,6 +23,15 @@ pub struct Setting {
 }
 
 impl Setting {
+    /// What the meter of all zeros has (the customer's scope, "Why a call is refused").
+    pub const fn zero() -> Setting {
+        Setting {
+            code: 0,
+            offset: 0,
+            margin: 0,
+        }
+    }
+
     /// A code with no offset and the usual margin, as the report program opens (the customer's
     /// requests L2 and L5).
     pub const fn usual(code: u8) -> Setting {
@@ -47,21 +56,18 @@ impl Setting {
 }
 
 impl Meter {
-    /// What was chosen at opening (the customer's requests L2 and L5).
-    pub fn setting(&self) -> Setting {
-        Setting {
-            code: self.code,
-            offset: self.offset,
-            margin: self.margin,
-        }
+    /// The same meter with another offset.
+    pub fn at_offset(&self, offset: i16) -> Meter {
+        let mut meter = self.clone();
+        meter.setting.offset = offset;
+        meter
     }
 
     /// The same meter with another margin.
     pub fn at_margin(&self, margin: i64) -> Meter {
-        Meter {
-            margin,
-            ..self.clone()
-        }
+        let mut meter = self.clone();
+        meter.setting.margin = margin;
+        meter
     }
 }
 

@@ -56,7 +56,7 @@ pub fn check(rate: &Rate, samples: &[i16], printed: &str) -> Tally {
     let setting = Setting::usual(rate.code);
     let measurement = measurement::read(&mut lines, setting, samples.len());
     tally.equal("lines left over", lines.count(), 0);
-    let measured = measurement.and_then(|measurement| measurement.report.ok());
+    let measured = measurement.and_then(|measurement| measurement.levels().ok());
     tally.holds("levels printed", measured.is_some());
     let expected = float::measure(rate, samples, float::M);
     tally.holds("levels in floating point", expected.is_some());

@@ -28,8 +28,8 @@ use Rattle.meter.specs.Refusals.{unnamedCode, wrongMargin, longChunk, wrongPlac
 use Rattle.meter.specs.Calls.{fresh, countingOf, afterSamples, openCall, chunkCall, blockCall}
 use Rattle.meter.proofs.Laws.{open-given, chunk-given, block-given, opened}
 use Rattle.meter.proofs.Possible.{Possible, passes}
-use Rattle.exact.specs.Calls.{TypedOffset, Call, chunk, block, AllSamples, Typed, broughtBy}
-use Rattle.exact.specs.Demands.{exactAt}
+use Rattle.exact.specs.Calls.{Call, chunk, block, AllSamples, Typed, broughtBy}
+use Rattle.exact.specs.Demands.{TypedOffset, exactAt}
 use Rattle.exact.specs.Exact.{E, startAt, start, takeAll, accepts, fed, exactly, answersOfE, took}
 use Rattle.exact.specs.Lists.{called, accepted, after, answers, taken}
 use Rattle.exact.proofs.Tied.{by, Tied, same-code, same-K, same-I, same-o, total, tied-samples, tied-fresh}

@@ -20,8 +20,8 @@ use Rattle.meter.proofs.Range.{margin-range}
 use Rattle.meter.proofs.Laws.{Levels, with-levels, crossing-of}
 use Rattle.meter.proofs.Outcome.{answered}
 use Rattle.meter.proofs.Possible.{passes, falling}
-use Rattle.exact.specs.Calls.{TypedOffset, Call, Typed, broughtBy}
-use Rattle.exact.specs.Demands.{Opens, meterAfter, exactAt, exactAfter, countAt, LevelBounds, Demand3}
+use Rattle.exact.specs.Calls.{Call, Typed, broughtBy}
+use Rattle.exact.specs.Demands.{TypedOffset, Opens, meterAfter, exactAt, exactAfter, countAt, LevelBounds, Demand3}
 use Rattle.exact.specs.Exact.{E, start, startAt, takeAll, accepts, fed, exactly}
 use Rattle.exact.proofs.Calls.{Good, good-possible, good-after, good-open, same-answers, same-samples}
 use Rattle.exact.proofs.Lost.{exact-squares}

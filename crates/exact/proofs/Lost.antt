@@ -21,8 +21,8 @@ use Rattle.meter.specs.declared.Meter.{Meter}
 use Rattle.meter.specs.Calls.{fresh, countingOf, afterSamples}
 use Rattle.meter.proofs.Laws.{opened}
 use Rattle.meter.proofs.Possible.{passes}
-use Rattle.exact.specs.Calls.{TypedOffset, Call, Typed, broughtBy}
-use Rattle.exact.specs.Demands.{Opens, meterAfter, exactAt, exactAfter, takenFrom, sum, sumOfSquares, NothingLost}
+use Rattle.exact.specs.Calls.{Call, Typed, broughtBy}
+use Rattle.exact.specs.Demands.{TypedOffset, Opens, meterAfter, exactAt, exactAfter, takenFrom, sum, sumOfSquares, NothingLost}
 use Rattle.exact.specs.Exact.{E, start, startAt, distance, takeOne, takeAll, accepts, fed, exactly, took}
 use Rattle.exact.specs.Lists.{called, accepted, after, taken}
 use Rattle.exact.proofs.Calls.{good-possible, good-after, good-open, handed-meter}

@@ -12,8 +12,8 @@ use Rattle.sample.specs.declared.State.{State}
 use Rattle.sample.specs.Sample.{freshState, stateAfter}
 use Rattle.meter.specs.declared.Meter.{Meter}
 use Rattle.meter.specs.Calls.{countingOf, openCall}
-use Rattle.exact.specs.Calls.{TypedOffset, Call, Typed}
-use Rattle.exact.specs.Demands.{Opens, meterAfter, exactAt, SameMeasurement}
+use Rattle.exact.specs.Calls.{Call, Typed}
+use Rattle.exact.specs.Demands.{TypedOffset, Opens, meterAfter, exactAt, SameMeasurement}
 use Rattle.exact.specs.Exact.{start, answersOfE, took}
 use Rattle.exact.proofs.Calls.{good-open, same-answers, same-samples}
 use Rattle.exact.proofs.Lost.{measured}

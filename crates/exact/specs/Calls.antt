@@ -1,15 +1,10 @@
--- Calls: METHOD.md, "One sample". What a call is given beside the meter, and the samples that it brings; and what types say of samples and of an offset.
+-- Calls: METHOD.md, "One sample". What a call is given beside the meter, and the samples that it brings; and what types say of samples.
 use mathlib.Core.List.{List, [], _∷_}
 use Prim.Native.Nat.{ℕ}
 use lib.IntN.{ℤ}
 use mir.Syntax.{w16}
 use mir.Val.{SFits}
 use Rattle.block.specs.Block.{samplesIn}
-use Rattle.setting.specs.declared.Setting.{Setting}
-
--- the offset that a meter is opened with is a signed 16-bit number, as its type says
-abbrev pub TypedOffset : Setting → Type 0
-TypedOffset c = SFits w16 (c .offset)
 
 -- a call's arguments other than the meter
 pub data Call : Type 0 where

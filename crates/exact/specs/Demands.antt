@@ -9,6 +9,8 @@ use Prim.Native.Nat.{ℕ, _+_, _*_, _^_, _≤_, _<_}
 use lib.IntN.{ℤ, pos, natAbs, _+ℤ_, _-ℤ_}
 use lib.ListN.{length}
 use lib.Signed.{ltZ, leZ}
+use mir.Syntax.{w16}
+use mir.Val.{SFits}
 use Rattle.level.specs.Types.{thresholds, activity, twoWords}
 use Rattle.refusal.specs.First.{Rule, NoneApplies, Given, Lowest}
 use Rattle.setting.specs.declared.Setting.{Setting}
@@ -24,12 +26,16 @@ use Rattle.meter.specs.Calls.{HandedReport, countingOf, afterSamples, openCall,
 use Rattle.meter.specs.Opened.{Fresh, Zeros}
 use Rattle.meter.specs.Refusals.{impossible, openRules, chunkRules, blockCallRules}
 use Rattle.meter.specs.Reports.{reportRules}
-use Rattle.exact.specs.Calls.{TypedOffset, Call, Typed}
+use Rattle.exact.specs.Calls.{Call, Typed}
 use Rattle.exact.specs.Exact.{E, start, exactly, answersOfE, took}
 use Rattle.exact.specs.Lists.{after, answers, taken}
 use Rattle.exact.specs.NoOffset.{NoOffset}
 
 -- ---- lists of calls, from the opening on
+
+-- the offset that a meter is opened with is a signed 16-bit number, as its type says
+abbrev pub TypedOffset : Setting → Type 0
+TypedOffset c = SFits w16 (c .offset)
 
 -- opening accepts a setting
 abbrev pub Opens : Setting → Type 0
@@ -154,8 +160,8 @@ pub record Demand2 : Type 0 where
 
 -- ---- demand 3: "For every list of chunk calls and block calls, refused ones among them, from a fresh meter at any named rate"
 
--- the level clauses, of a report r: A is above 0, being at least the margin; A plus two steps is above E's exact level at the lower threshold, and A less two steps below E's at
--- the upper threshold raised by D
+-- the level clauses, of a report r: A is above 0, since it is not below the margin; A plus two steps is above E's exact level at the lower threshold,
+-- and A less two steps below E's at the upper threshold raised by D
 pub record LevelBounds (r : Report) (e : E) (D : ℕ) : Type 0 where
   pub A : ℕ
   pub reported : r .levels .active .0 ≡ pos A

@@ -1,4 +1,4 @@
--- The worked figures. Those of METHOD.md, "Worked figures", come first; then our own, for what those do not tell apart.
+-- The worked figures: METHOD.md, "Worked figures". The customer's come first; then our own, for what those do not tell apart.
 use mathlib.Core.Bool.{true, false}
 use mathlib.Core.List.{List, [], _∷_, _++_}
 use Prim.Native.Nat.{ℕ, _+_, _-_, _*_, _^_}

@@ -32,7 +32,7 @@ someBelow (suc k) f = someBelow k f || f k
 unfoldable pub unnamedCode : Setting → Bool
 unnamedCode c = not (isNamed (c .code))
 
--- 17: a margin outside 1 to 22314 steps; these are the most that are not above 16.4 dB
+-- 17: a margin outside 1 to 22314 steps, of which 22314 is the most that is not above 16.4 dB
 abbrev pub leastMargin : ℤ
 leastMargin = pos 1
 

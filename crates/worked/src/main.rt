@@ -71,23 +71,8 @@ fn reports(lines: &mut [u8], used: usize) -> usize {
         0,
     ];
     let used = reported(lines, used, 16384, 1073741824, eighth);
-    let half = [
-        4096,
-        4096,
-        4096,
-        4096,
-        4096,
-        4096,
-        4096,
-        2048,
-        0,
-        0,
-        0,
-        0,
-        0,
-        0,
-        0,
-    ];
+    let mut half = eighth;
+    half[7] = 2048;
     let used = reported(lines, used, 16384, 1073741824, half);
     let lowest = [32768, 0, 0, 0, 0, 0, 0, 0, 0, 0, 0, 0, 0, 0, 0];
     let used = reported(lines, used, 32768, 1275068, lowest);

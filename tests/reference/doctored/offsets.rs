@@ -38,17 +38,14 @@ fn list() -> List {
 fn taken_at(offsets: [i16; 3]) -> Meter {
     let mut meter = Meter::open(SETTING).0;
     for (offset, samples) in offsets.into_iter().zip(CALLS) {
-        (meter, _) = Meter { offset, ..meter }.chunk(&samples);
+        (meter, _) = meter.at_offset(offset).chunk(&samples);
     }
     meter
 }
 
 /// The same, with the right offset kept.
 fn kept(offsets: [i16; 3]) -> Meter {
-    Meter {
-        offset: OFFSET,
-        ..taken_at(offsets)
-    }
+    taken_at(offsets).at_offset(OFFSET)
 }
 
 /// The right meter but for what it takes for x - o.
@@ -56,7 +53,7 @@ fn taking(right: &Meter, difference: impl Fn(i16) -> i16) -> Meter {
     let samples: Vec<i16> = CALLS.concat().into_iter().map(difference).collect();
     let (meter, _) = Meter::open(Setting::usual(1)).0.chunk(&samples);
     Meter {
-        offset: right.offset,
+        setting: right.setting,
         s: right.s,
         ..meter
     }
@@ -76,7 +73,7 @@ pub fn offsets(tally: &mut Tally) {
 
 /// The sum of x - o, which is not s.
 fn sum_of_differences(right: &Meter) -> i64 {
-    right.s - right.n as i64 * i64::from(right.offset)
+    right.s - right.n as i64 * i64::from(right.setting.offset)
 }
 
 /// Meters with one thing of the samples as they are, or of x - o, that should be of the other.
@@ -93,7 +90,7 @@ fn fields(tally: &mut Tally, list: &List) {
         sq: list.meter.sq,
         ..raw
     };
-    let forgotten = with(&|meter| meter.offset = 0);
+    let forgotten = list.meter.at_offset(0);
     let rows = [
         ("s of x - o", s_moved, &["s"][..]),
         ("sq of x", sq_raw, &["sq", "A from below"]),

@@ -5,6 +5,7 @@ use super::highest::with_three;
 use super::{handed_in, report_with};
 use crate::block;
 use crate::float;
+use crate::generate::settings::REFUSED_MARGINS;
 use crate::margins::margins as told;
 use crate::measurement::STEP;
 use crate::meter::{Meter, Report};
@@ -13,23 +14,6 @@ use crate::records::Record;
 use crate::setting::{marked, Setting, USUAL_MARGIN};
 use crate::speech::voice;
 use crate::tally::Tally;
-
-/// Margins that are refused: just outside the range, far outside it, and ones that are in it by
-/// their lowest 16, 32 or 63 bits.
-const REFUSED: [i64; 12] = [
-    0,
-    -1,
-    22315,
-    -21635,
-    65537,
-    87171,
-    21635 + (1 << 32),
-    21635 - (1 << 32),
-    i64::MIN,
-    i64::MIN + 1,
-    i64::MIN + 21635,
-    i64::MAX,
-];
 
 /// What a report at a margin has: the margin, A, C and F, the lower and the upper threshold, T and
 /// the mark.
@@ -63,9 +47,7 @@ fn setting(code: u8, margin: i64) -> Setting {
 fn openings(tally: &mut Tally) {
     for margin in [1, 2, 20954, 20955, 21635, 22313, 22314] {
         let fresh = Meter {
-            code: 2,
-            offset: 300,
-            margin,
+            setting: setting(2, margin),
             h: [1600; 15],
             ..Meter::zero()
         };
@@ -73,19 +55,19 @@ fn openings(tally: &mut Tally) {
         tally.equal(&name, Meter::open(setting(2, margin)), (fresh, 0));
         tally.equal(&name, Meter::open(setting(4, margin)), (Meter::zero(), 1));
     }
-    for margin in REFUSED {
+    for margin in REFUSED_MARGINS {
         let name = format!("opened with {margin}");
         tally.equal(&name, Meter::open(setting(2, margin)), (Meter::zero(), 17));
         tally.equal(&name, Meter::open(setting(0, margin)), (Meter::zero(), 1));
     }
-    tally.equal("margin of all zeros", Meter::zero().margin, 0);
+    tally.equal("margin of all zeros", Meter::zero().setting.margin, 0);
 }
 
 /// Every call on a meter with a margin outside the range is refused and hands it back.
 fn meters(tally: &mut Tally) {
     let sound = handed_in(16384, 1 << 30, &[4096; 8]);
     let block = block::make(2, 16384, &[1]);
-    for margin in REFUSED {
+    for margin in REFUSED_MARGINS {
         let meter = sound.at_margin(margin);
         let name = format!("handed in with {margin}");
         tally.equal(&name, meter.report(), Err(2));
@@ -118,14 +100,15 @@ fn kept(tally: &mut Tally) {
 }
 
 /// Checks the reports of a meter at margins.
-fn row(tally: &mut Tally, meter: &Meter, L: i64, rows: &[Row]) {
+fn row(tally: &mut Tally, name: &str, meter: &Meter, L: i64, rows: &[Row]) {
     for &(margin, [A, C, F], lower, upper, T, mark) in rows {
         let meter = meter.at_margin(margin);
         let report = Report {
             mark,
             ..report_with(&meter, [L, A, C, F], lower, upper, T)
         };
-        tally.equal(&format!("margin {margin}"), meter.report(), Ok(report));
+        let name = format!("{name} at margin {margin}");
+        tally.equal(&name, meter.report(), Ok(report));
     }
 }
 
@@ -146,7 +129,8 @@ fn reports(tally: &mut Tally) {
         (22313, [71503, 49190, -5967], 6, 7, 3643, false),
         (22314, [71499, 49185, -5963], 6, 7, 3645, false),
     ];
-    row(tally, &handed_in(16384, 1 << 30, &a), 65536, &rows);
+    let meter = handed_in(16384, 1 << 30, &a);
+    row(tally, "a steep fall", &meter, 65536, &rows);
 }
 
 /// The meter with three crossings, of which the highest is used: at 20480 each has a d_j of 0, and
@@ -158,14 +142,14 @@ fn several(tally: &mut Tally) {
         (20481, [61439, 40958, -36863], 4, 5, 19, true),
         (22314, [59606, 37292, -35030], 4, 5, 26, false),
     ];
-    row(tally, &with_three(), 24576, &rows);
+    row(tally, "three crossings", &with_three(), 24576, &rows);
 }
 
 /// Checks the refusals of a meter's report at margins.
-fn refused(tally: &mut Tally, meter: &Meter, rows: &[(i64, u32)]) {
+fn refused(tally: &mut Tally, name: &str, meter: &Meter, rows: &[(i64, u32)]) {
     for &(margin, r) in rows {
         let found = meter.at_margin(margin).report();
-        tally.equal(&format!("margin {margin}"), found, Err(r));
+        tally.equal(&format!("{name} at margin {margin}"), found, Err(r));
     }
 }
 
@@ -174,16 +158,13 @@ fn refused(tally: &mut Tally, meter: &Meter, rows: &[(i64, u32)]) {
 fn too_quiet(tally: &mut Tally) {
     let one = handed_in(32768, 1 << 20, &[32768]);
     let level = (20480, [20480, 0, 0], 0, 0, 10000, true);
-    row(tally, &one, 20480, &[level]);
-    refused(
-        tally,
-        &one,
-        &[(1, 16), (20479, 16), (20481, 15), (21635, 15)],
-    );
+    row(tally, "d_0 alone", &one, 20480, &[level]);
+    let refusals = [(1, 16), (20479, 16), (20481, 15), (21635, 15)];
+    refused(tally, "d_0 alone", &one, &refusals);
     let two = handed_in(32768, 1 << 20, &[32768, 10923]);
     let level = (20000, [22313, 2313, -1833], 0, 1, 7333, true);
-    row(tally, &two, 20480, &[level]);
-    refused(tally, &two, &[(18779, 16), (21635, 15)]);
+    row(tally, "d_0 and d_1", &two, 20480, &[level]);
+    refused(tally, "d_0 and d_1", &two, &[(18779, 16), (21635, 15)]);
 }
 
 /// A meter that is refused with 16 at 21635 and has a level at a larger margin.
@@ -193,14 +174,16 @@ fn too_loud(tally: &mut Tally) {
         (21999, [136687, 114688, -9711], 14, 14, 1933, false),
         (22314, [136687, 114373, -9711], 13, 14, 1933, false),
     ];
-    row(tally, &meter, 126976, &rows);
-    refused(tally, &meter, &[(1, 16), (21635, 16), (21998, 16)]);
+    row(tally, "too loud", &meter, 126976, &rows);
+    let refusals = [(1, 16), (21635, 16), (21998, 16)];
+    refused(tally, "too loud", &meter, &refusals);
 }
 
 /// The least A that a report can have, which is 1, and one less.
 fn least_level(tally: &mut Tally) {
     let meter = handed_in(4096, 4097, &[4096]);
-    row(tally, &meter, 1, &[(1, [1, 0, 0], 0, 0, 10000, true)]);
+    let level = (1, [1, 0, 0], 0, 0, 10000, true);
+    row(tally, "A_0 of 1", &meter, 1, &[level]);
     let lower = handed_in(4096, 4096, &[4096]).at_margin(1);
     tally.equal("A_0 of 0", lower.report(), Err(15));
 }

@@ -33,9 +33,11 @@ pub fn offsets(tally: &mut Tally) {
 fn openings(tally: &mut Tally) {
     for offset in OFFSETS {
         let fresh = Meter {
-            code: 2,
-            offset,
-            margin: 21635,
+            setting: Setting {
+                code: 2,
+                offset,
+                margin: 21635,
+            },
             h: [1600; 15],
             ..Meter::zero()
         };
@@ -45,7 +47,7 @@ fn openings(tally: &mut Tally) {
             tally.equal("refused", refused, (Meter::zero(), 1));
         }
     }
-    tally.equal("offset of all zeros", Meter::zero().offset, 0);
+    tally.equal("offset of all zeros", Meter::zero().setting.offset, 0);
 }
 
 /// The largest size there is, and none, by a chunk and by a block.
@@ -65,8 +67,8 @@ fn samples(tally: &mut Tally) {
         ..Meter::open(setting(2, -1)).0
     };
     for (x, expected) in [(-32768, furthest), (-1, silent)] {
-        let (fresh, _) = Meter::open(setting(2, expected.offset));
-        let name = format!("{x} at code 2, offset {}", expected.offset);
+        let (fresh, _) = Meter::open(expected.setting);
+        let name = format!("{x} at code 2, offset {}", expected.setting.offset);
         let by_block = fresh.block(&block::make(2, 0, &[x]));
         tally.equal(&name, fresh.chunk(&[x]), (expected.clone(), 0));
         tally.equal(&name, by_block, (expected, 0));
@@ -123,9 +125,8 @@ fn moved(tally: &mut Tally) {
     for offset in OFFSETS {
         let samples = around(offset, voice);
         let expected = Meter {
-            offset,
             s: samples.iter().map(|&x| i64::from(x)).sum(),
-            ..still.clone()
+            ..still.at_offset(offset)
         };
         let (moved, _) = Meter::open(setting(1, offset)).0.chunk(&samples);
         tally.equal(&format!("a voice around {offset}"), moved, expected);

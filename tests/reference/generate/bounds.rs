@@ -24,9 +24,10 @@ pub fn bounds(random: &mut Random, code: u8) -> Vec<Meter> {
 
 /// Rate codes, named and not.
 fn codes(random: &mut Random, code: u8) -> Vec<Meter> {
-    let with = |code_given| Meter {
-        code: code_given,
-        ..plausible(random, code)
+    let with = |given| {
+        let mut meter = plausible(random, code);
+        meter.setting.code = given;
+        meter
     };
     [code, 0, 4, 5, 255].into_iter().map(with).collect()
 }
@@ -36,9 +37,8 @@ fn codes(random: &mut Random, code: u8) -> Vec<Meter> {
 fn offsets(random: &mut Random, code: u8) -> Vec<Meter> {
     let mut meters = Vec::new();
     for offset in [i16::MIN, -1, 0, 1, i16::MAX] {
-        let meter = plausible(random, code);
+        let meter = plausible(random, code).at_offset(offset);
         meters.push(Meter {
-            offset,
             s: (meter.n << 15) as i64,
             sq: most_squares(meter.n),
             P: MOST_ENVELOPE,
@@ -46,17 +46,14 @@ fn offsets(random: &mut Random, code: u8) -> Vec<Meter> {
             a: [meter.n; 15],
             ..meter
         });
-        meters.push(Meter { offset, ..meter });
+        meters.push(meter);
     }
     meters
 }
 
 /// Margins, at the ends of the range and outside it.
 fn margins(random: &mut Random, code: u8) -> Vec<Meter> {
-    let with = |margin| Meter {
-        margin,
-        ..plausible(random, code)
-    };
+    let with = |margin| plausible(random, code).at_margin(margin);
     let margins = [LEAST_MARGIN, MOST_MARGIN].into_iter();
     margins.chain(REFUSED_MARGINS).map(with).collect()
 }

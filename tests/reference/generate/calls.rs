@@ -49,7 +49,7 @@ fn openings(script: &mut Script, named: u8) {
 
 /// Hands a meter in and makes each kind of call on it.
 fn tried(script: &mut Script, meter: Meter) {
-    let furthest = furthest(meter.offset);
+    let furthest = furthest(meter.setting.offset);
     script.add(Record::Load(meter));
     script.add(Record::Report);
     script.add(Record::Chunk(Vec::new()));
@@ -92,7 +92,7 @@ fn step(script: &mut Script) {
 
 /// The hangover of the meter, or any where its code is not named.
 fn hangover(script: &Script) -> u64 {
-    rate(u32::from(script.meter().code)).map_or(139, |rate| rate.I)
+    rate(u32::from(script.meter().setting.code)).map_or(139, |rate| rate.I)
 }
 
 /// An opening, mostly with a named code and a margin in the range, and what it leaves.
@@ -111,7 +111,7 @@ fn open(script: &mut Script) {
 
 /// Samples of some signal.
 fn samples(script: &mut Script, length: usize) -> Vec<i16> {
-    let (I, offset) = (hangover(script), script.meter().offset);
+    let (I, offset) = (hangover(script), script.meter().setting.offset);
     let samples = signal(&mut script.random, I, length);
     placed(&mut script.random, offset, samples)
 }
@@ -160,7 +160,7 @@ fn refused_block(script: &mut Script) {
 
 /// Noise, then a silence that outlasts envelope and hangover.
 fn bursts(script: &mut Script) {
-    let (I, offset) = (hangover(script), script.meter().offset);
+    let (I, offset) = (hangover(script), script.meter().setting.offset);
     let length = script.random.between(1, I) as usize;
     let noise = noise(&mut script.random, length);
     let burst = placed(&mut script.random, offset, noise);

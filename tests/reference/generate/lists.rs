@@ -21,6 +21,12 @@ const TOTAL: usize = 600;
 /// So few samples that the calls of a list take all of them, but for very few lists.
 const ALL_TAKEN: usize = 300;
 
+/// How many signals are tried for one with a level at a margin.
+///
+/// About one in ninety has a level at the margins 1 and 2, and most have one at the others: that none
+/// of so many has one is no chance, but a margin at which no signal has a level.
+const TRIED: usize = 10000;
+
 /// What a list is for.
 #[derive(Clone, Copy)]
 enum Purpose {
@@ -160,9 +166,10 @@ fn of_level(random: &mut Random, rate: &Rate, margin: i64) -> Vec<i16> {
         margin,
         ..Setting::usual(rate.code)
     });
-    let mut signals = iter::repeat_with(|| signal(random, rate.I, ALL_TAKEN));
+    let signals = iter::repeat_with(|| signal(random, rate.I, ALL_TAKEN));
     let has_level = |samples: &Vec<i16>| fresh.chunk(samples).0.report().is_ok();
-    signals.find(has_level).expect("signals without end")
+    let found = signals.take(TRIED).find(has_level);
+    found.unwrap_or_else(|| panic!("no signal of {TRIED} has a level at margin {margin}"))
 }
 
 /// A few of the loudest samples, the last of them as far from the offset as a sample can be.
@@ -197,7 +204,7 @@ fn accepted<'a>(script: &mut Script, rest: &'a [i16], count: u64) -> &'a [i16] {
     let length = wanted.min(rest.len());
     let (taken, rest) = rest.split_at(length);
     if (1..=block::MOST).contains(&length) && script.random.once_in(2) {
-        let bytes = block::make(script.meter().code, script.meter().n, taken);
+        let bytes = block::make(script.meter().setting.code, script.meter().n, taken);
         script.add(Record::Block(bytes));
     } else {
         script.add(Record::Chunk(taken.to_vec()));

@@ -1,7 +1,7 @@
 //! Meters to hand in: plausible ones, and ones made for a report.
 
 use super::random::Random;
-use super::settings::margin;
+use super::settings::setting;
 use crate::level::steps;
 use crate::meter::Meter;
 use crate::rate::rate;
@@ -49,9 +49,7 @@ pub fn plausible(random: &mut Random, code: u8) -> Meter {
     let s = random.between(0, n << 15) as i64;
     let bits = random.between(1, 80);
     Meter {
-        code,
-        offset: random.offset(),
-        margin: margin(random),
+        setting: setting(random, code),
         n,
         s: random.pick(&[s, -s]),
         sq: random.of_length(bits).min(most_squares(n)),
@@ -68,7 +66,8 @@ pub fn tuned(random: &mut Random, code: u8) -> Meter {
     let j = random.below(15) as usize;
     let bits = random.between(1, 30);
     let a_j = random.of_length(bits) as u64;
-    let level = steps(u128::from(a_j)).expect("a_j is above 0") + 8192 * j as i64 + meter.margin;
+    let level =
+        steps(u128::from(a_j)).expect("a_j is above 0") + 8192 * j as i64 + meter.setting.margin;
     let sq = least_of_level(level - 1 + random.below(3) as i64);
     let n = a_j.max((sq >> 32) as u64 + 1) + random.below(1000);
     let mut a = [a_j / random.pick(&[1, 2, 16, 1 << 31]); 15];
@@ -91,7 +90,7 @@ pub fn of_factor(random: &mut Random, code: u8, F: i64) -> Meter {
     let bits = random.between(30, 48);
     let n = random.of_length(bits);
     let a_j = least_of_level(steps(n).expect("n is above 0") + F);
-    let above = meter.margin + random.between(0, 8192 * 13) as i64;
+    let above = meter.setting.margin + random.between(0, 8192 * 13) as i64;
     let sq = least_of_level(steps(a_j).expect("a_j is above 0") + above);
     Meter {
         n: n as u64,
@@ -122,7 +121,7 @@ pub fn wavering(random: &mut Random, code: u8) -> Meter {
     Meter {
         n: n as u64,
         s: 0,
-        sq: least_of_level(level + meter.margin),
+        sq: least_of_level(level + meter.setting.margin),
         a,
         ..meter
     }

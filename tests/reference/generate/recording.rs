@@ -58,7 +58,7 @@ fn accepted(script: &mut Script, samples: &mut impl Iterator<Item = i16>) -> Vec
         .random
         .pick(&[block::MOST, block::MOST, block::MOST, 1, any]);
     let samples: Vec<i16> = samples.take(count).collect();
-    block::make(script.meter().code, script.meter().n, &samples)
+    block::make(script.meter().setting.code, script.meter().n, &samples)
 }
 
 /// A whole block that the meter refuses with this number.

@@ -46,14 +46,15 @@ impl Script {
 
     /// A sound block of noise that fits the meter.
     pub fn fitting(&mut self, samples: u64) -> Vec<u8> {
-        let (code, n, offset) = (self.meter().code, self.meter().n, self.meter().offset);
+        let (setting, n) = (self.meter().setting, self.meter().n);
         let noise = noise(&mut self.random, samples as usize);
-        block::make(code, n, &placed(&mut self.random, offset, noise))
+        let samples = placed(&mut self.random, setting.offset, noise);
+        block::make(setting.code, n, &samples)
     }
 
     /// A block that fits the meter but for its samples before.
     pub fn misplaced(&mut self) -> Vec<u8> {
-        let (code, n) = (self.meter().code, self.meter().n);
+        let (code, n) = (self.meter().setting.code, self.meter().n);
         let any = self.random.next();
         let before = self
             .random
@@ -64,7 +65,7 @@ impl Script {
 
     /// A block that fits the meter but for its rate code.
     pub fn of_another_rate(&mut self) -> Vec<u8> {
-        let (code, n) = (self.meter().code, self.meter().n);
+        let (code, n) = (self.meter().setting.code, self.meter().n);
         let others: Vec<u8> = [0, 1, 2, 3, 4, 255]
             .into_iter()
             .filter(|&c| c != code)

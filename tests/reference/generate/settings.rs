@@ -19,20 +19,22 @@ pub const MARGINS: [i64; 8] = [
 
 /// Margins to refuse: next to the range, with the other sign, furthest from it, and those that would
 /// be in the range if only their lowest 16, 32 or 63 bits were read.
+///
+/// They are numbers, not made from the bounds, since the figures hold the bounds to them.
 pub const REFUSED_MARGINS: [i64; 13] = [
-    LEAST_MARGIN - 1,
-    -LEAST_MARGIN,
-    MOST_MARGIN + 1,
-    -USUAL_MARGIN,
+    0,
+    -1,
+    22315,
+    -21635,
     i64::MIN,
     i64::MAX,
-    LEAST_MARGIN + (1 << 16),
-    USUAL_MARGIN + (1 << 16),
-    USUAL_MARGIN + (1 << 32),
-    USUAL_MARGIN - (1 << 32),
-    MOST_MARGIN - (1 << 32),
-    LEAST_MARGIN + i64::MIN,
-    USUAL_MARGIN + i64::MIN,
+    1 + (1 << 16),
+    21635 + (1 << 16),
+    21635 + (1 << 32),
+    21635 - (1 << 32),
+    22314 - (1 << 32),
+    1 + i64::MIN,
+    21635 + i64::MIN,
 ];
 
 /// A margin to accept: one of those, or any.
@@ -72,7 +74,7 @@ pub fn refused_setting(random: &mut Random, code: u8) -> Setting {
 
 /// The margin at which d_j of a meter is 0, where there is a d_j.
 fn exact(meter: &Meter, j: usize) -> Option<i64> {
-    Some(meter.d(j)? + meter.margin)
+    Some(meter.d(j)? + meter.setting.margin)
 }
 
 /// A margin to accept at which some d_j of a meter is 0 or a step from it, where there is one.

@@ -21,7 +21,7 @@ pub fn approach(random: &mut Random, code: u8, target: u64) -> (Meter, Vec<i16>)
         ..plausible(random, code)
     };
     let sizes = noise_within(random, (most >> 24).min(32768), length as usize);
-    let samples = around(meter.offset, &sizes);
+    let samples = around(meter.setting.offset, &sizes);
     let Q = least_before(&meter, &samples, target);
     (Meter { Q, ..meter }, samples)
 }

@@ -68,7 +68,7 @@ pub fn heard(rate: &Rate, seed: u64, printed: &str) -> Tally {
     let samples = line.samples();
     let setting = Setting::usual(rate.code);
     let measurement = measurement::read(&mut printed.lines(), setting, samples.len());
-    let reported = measurement.and_then(|measurement| measurement.report.ok());
+    let reported = measurement.and_then(|measurement| measurement.levels().ok());
     tally.holds("levels printed", reported.is_some());
     let crossings = float::crossings(rate, &samples, float::M);
     tally.holds("two crossings or more", crossings.len() >= 2);
