@@ -43,7 +43,7 @@ pub record Good (m : Meter) (e : E) : Type 0 where
   pub code : m .setting .code ≡ e .code
   pub offset : m .setting .offset ≡ e .o
   pub offset-fits : SFits w16 (e .o)
-  pub margin : wrongMargin (m .setting) ≡ false
+  pub margin : wrongMargin (m .setting .margin .0) ≡ false
   pub few : m .state .sums .n .0 ≤ mostSamples
   pub tied : Tied (rowOf (e .code) .d) (m .state) e
 
@@ -245,11 +245,11 @@ same-samples (call ∷ calls) m e f g =
 -- ---- from the opening on
 
 -- neither 1 nor 17 applies to a setting that opening accepts
-accepted-setting : (c : Setting) → openCall c .number ≡ 0 → (isNamed (c .code) ≡ true) × (wrongMargin c ≡ false)
+accepted-setting : (c : Setting) → openCall c .number ≡ 0 → (isNamed (c .code) ≡ true) × (wrongMargin (c .margin .0) ≡ false)
 unfolding NoneApplies openRules unnamedCode
 accepted-setting c z = let n = open-given c .0 .accepted .0 z in (not-false _ (n .0), n .1 .0)
 
-good-fresh : (c : Setting) → TypedOffset c → (isNamed (c .code) ≡ true) × (wrongMargin c ≡ false) → Good (fresh c) (exactAt c)
+good-fresh : (c : Setting) → TypedOffset c → (isNamed (c .code) ≡ true) × (wrongMargin (c .margin .0) ≡ false) → Good (fresh c) (exactAt c)
 unfolding start startAt fresh iOf freshState
 good-fresh c t n =
     record {

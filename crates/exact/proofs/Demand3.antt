@@ -51,7 +51,7 @@ module _ (m : Meter) (e : E) (g : Good m e) (r : Report) (L : Levels m r) where
   bounds =
       let at = L .used .crossing .place in
       let below : cross .i < thresholds = omega (arith, cross .reach) in
-      bounded (marginOf m) (twoWords (m .state .sums .sq)) (m .state .a) (L .j) _ _ (margin-range (m .setting) (g .margin) .above-zero) (L .sq-pos) (omega (arith, g .tied .squares, g .few)) cross
+      bounded (marginOf m) (twoWords (m .state .sums .sq)) (m .state .a) (L .j) _ _ (margin-range (marginOf m) (g .margin) .above-zero) (L .sq-pos) (omega (arith, g .tied .squares, g .few)) cross
       (omega (arith, g .tied .each (cross .i) below .few, g .few)) (g .tied .each (cross .i) below .high .count) (g .tied .each (L .j) at .low .count)
 
   pub level-bounds : LevelBounds r e (rowOf (e .code) .d)

@@ -19,7 +19,7 @@ use Rattle.meter.proofs.Below.{NoneOf, none-of, of-none, none-below, ea
 
 pub record Possible (m : Meter) : Type 0 where
   pub named : isNamed (m .setting .code) ≡ true
-  pub margin : wrongMargin (m .setting) ≡ false
+  pub margin : wrongMargin (m .setting .margin .0) ≡ false
   pub n-max : m .state .sums .n .0 ≤ mostSamples
   pub s-max : natAbs (m .state .sums .s) ≤ m .state .sums .n .0 * sumBound
   pub sq-max : twoWords (m .state .sums .sq) ≤ m .state .sums .n .0 * squareBound

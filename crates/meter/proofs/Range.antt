@@ -7,7 +7,6 @@ use borrow.Author.Tests.{lt-ltb, ltb-false}
 use lib.Dec.{T}
 use lib.IntN.{ℤ, pos, negsuc, natAbs}
 use lib.Signed.{ltZ}
-use Rattle.setting.specs.declared.Setting.{Setting}
 use Rattle.meter.specs.Refusals.{leastMargin, largestMargin, wrongMargin}
 use Rattle.meter.proofs.Below.{neither}
 
@@ -21,6 +20,6 @@ allowed (pos n) low high =
     record { above-zero = lt-ltb 0 n (omega (arith, ltb-false n 1 low)); most = ltb-false 22314 n high }
 allowed (negsuc n) low high = absurd (subst T low tt)
 
-pub margin-range : (c : Setting) → wrongMargin c ≡ false → Allowed (c .margin .0)
+pub margin-range : (M : ℤ) → wrongMargin M ≡ false → Allowed M
 unfolding wrongMargin
-margin-range c ok = let n = neither _ _ ok in allowed _ (n .0) (n .1)
+margin-range M ok = let n = neither _ _ ok in allowed M (n .0) (n .1)

@@ -39,8 +39,8 @@ leastMargin = pos 1
 abbrev pub largestMargin : ℤ
 largestMargin = pos 22314
 
-unfoldable pub wrongMargin : Setting → Bool
-wrongMargin c = ltZ (c .margin .0) leastMargin || ltZ largestMargin (c .margin .0)
+unfoldable pub wrongMargin : (M : ℤ) → Bool
+wrongMargin M = ltZ M leastMargin || ltZ largestMargin M
 
 -- the bounds of refusal 2: |s| and sq a sample, and P and Q
 abbrev pub sumBound : ℕ
@@ -98,7 +98,7 @@ unfoldable pub impossible : Meter → Bool
 impossible m =
     anyOf
     (unnamedCode (m .setting)
-    ∷ wrongMargin (m .setting)
+    ∷ wrongMargin (m .setting .margin .0)
     ∷ impossibleSums (m .state .sums)
     ∷ someBelow thresholds (impossibleCounter (iOf (m .setting)) (m .state))
     ∷ [])
@@ -116,7 +116,7 @@ unfoldable pub tooMany : Meter → ℕ → Bool
 tooMany m new = ltb mostSamples (m .state .sums .n .0 + new)
 
 unfoldable pub openRules : Setting → List Rule
-openRules c = (1, unnamedCode c) ∷ (17, wrongMargin c) ∷ []
+openRules c = (1, unnamedCode c) ∷ (17, wrongMargin (c .margin .0)) ∷ []
 
 unfoldable pub chunkRules : Meter → List ℤ → List Rule
 chunkRules m xs = (2, impossible m) ∷ (3, longChunk xs) ∷ (11, tooMany m (length xs)) ∷ []

@@ -3,7 +3,6 @@ ghost use mathlib.Core.Path.{_≡_};
 ghost use Rattle.meter.specs.Refusals.{wrongMargin};
 ghost use Rattle.meter.specs.Reports.{isMarked};
 use level::Steps;
-use setting::Setting;
 
 // The least margin and the largest, in steps; the largest is just under 16.4 dB.
 const LEAST: i64 = 1;
@@ -13,15 +12,14 @@ const LARGEST: i64 = 22314;
 // The fewest steps that are not below 15.4 dB: a margin of fewer is marked.
 const MARKED_BELOW: i64 = 20955;
 
-// Whether the margin is out of range.
-pub(crate) fn is_wrong(setting: Setting) -> bool
-    ensures { λ r. ⌜ r ≡ wrongMargin setting ⌝ }
+// Whether a margin is out of range.
+pub(crate) fn is_wrong(margin: Steps) -> bool
+    ensures { λ r. ⌜ r ≡ wrongMargin (margin .0) ⌝ }
 {
-    let margin = setting.margin.value();
-    if margin < LEAST {
+    if margin.value() < LEAST {
         return true;
     }
-    LARGEST < margin
+    LARGEST < margin.value()
 }
 
 // Whether a margin is marked.

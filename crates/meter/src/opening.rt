@@ -26,7 +26,7 @@ impl Meter {
     {
         match Rate::of(setting.code) {
             Named::As(rate) => {
-                if margin::is_wrong(setting) {
+                if margin::is_wrong(setting.margin) {
                     return unopened(Refusal::WrongMargin);
                 }
                 Fed {

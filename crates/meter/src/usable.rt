@@ -33,7 +33,7 @@ pub(crate) fn rate(m: Meter) -> Named
 {
     match Rate::of(m.setting.code) {
         Named::As(rate) => {
-            if margin::is_wrong(m.setting) {
+            if margin::is_wrong(m.setting.margin) {
                 return Named::Nothing;
             }
             if impossible_sums(m.state.sums) {

@@ -35,7 +35,7 @@ returns c =
     let s = asked-at w in
     c .unopened .ensures
     ∙ refusal 17 (openRules s) (fresh s) zeroMeter (omega arith)
-    (past 1 (unnamedCode s) _ (named (w .before .before)) (here 17 (wrongMargin s) _ (sym (w .is-wrong .ensures) ∙ c .before .if1 .taken)))
+    (past 1 (unnamedCode s) _ (named (w .before .before)) (here 17 (wrongMargin (s .margin .0)) _ (sym (w .is-wrong .ensures) ∙ c .before .if1 .taken)))
 
 returns-2 : tie.Need-returns-2
 unfolding handedBy openCall openRules fresh freshAt iOf
@@ -45,7 +45,7 @@ returns-2 c =
     let r = w .before .before in
     ap (refusedWith 0) (c .fresh .ensures ∙ ap (freshAt s) (sym (ap (λ (x : Rate). x .i) (row-is (s .code) _ (rate-is r)))))
     ∙ acceptance (openRules s) (fresh s) zeroMeter
-    (past 1 (unnamedCode s) _ (named r) (past 17 (wrongMargin s) _ (sym (w .is-wrong .ensures) ∙ c .before .if1 .left) none))
+    (past 1 (unnamedCode s) _ (named r) (past 17 (wrongMargin (s .margin .0)) _ (sym (w .is-wrong .ensures) ∙ c .before .if1 .left) none))
 
 returns-3 : tie.Need-returns-3
 unfolding openCall openRules unnamedCode

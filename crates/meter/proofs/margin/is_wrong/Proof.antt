@@ -11,23 +11,19 @@ use Rattle.meter.specs.Refusals.{leastMargin, largestMargin, wrongMargin
 use Rattle.meter.proofs.margin.is_wrong.Statement.{statement}
 use Rattle.meter.proofs.margin.is_wrong.Tie as tie
 
--- the word that was read holds the margin
-margin-is : (c : tie.After-value) → toZ w64 (ofZ w64 (c .value .result)) ≡ c .before .args .setting .margin .0
-margin-is c = word (c .value .ok) (c .value .ensures)
-
 -- where the first test came out so, the second decides
 first : (c : tie.After-value) (b : Bool) → ltZ (toZ w64 (ofZ w64 (c .value .result))) leastMargin ≡ b
-    → b || ltZ largestMargin (c .before .args .setting .margin .0) ≡ wrongMargin (c .before .args .setting)
+    → b || ltZ largestMargin (c .before .args .margin .0) ≡ wrongMargin (c .before .args .margin .0)
 unfolding wrongMargin
 first c b e =
-    let M = c .before .args .setting .margin .0 in
-    ap (λ (t : Bool). t || ltZ largestMargin M) (sym e ∙ ap (λ (z : ℤ). ltZ z leastMargin) (margin-is c))
+    let M = c .before .args .margin .0 in
+    ap (λ (t : Bool). t || ltZ largestMargin M) (sym e ∙ ap (λ (z : ℤ). ltZ z leastMargin) (word (c .value .ok) (c .value .ensures)))
 
 returns : tie.Need-returns
 returns c = first (c .before) _ (c .if1 .taken)
 
 returns-2 : tie.Need-returns-2
-returns-2 c = ap (ltZ largestMargin) (margin-is (c .before)) ∙ first (c .before) _ (c .if1 .left)
+returns-2 c = ap (ltZ largestMargin) (word (c .value2 .ok) (c .value2 .ensures)) ∙ first (c .before .before) _ (c .before .if1 .left)
 
 pub is-wrong-spec : {M : Type 1} → statement M
-is-wrong-spec = tie.close (tie.spec (λ c κs. search needs) returns returns-2)
+is-wrong-spec = tie.close (tie.spec (λ c κs. search needs) returns (λ c κs. search needs) returns-2)

@@ -27,7 +27,7 @@ unfolding noSamples noSignal noActivity
 measured m t =
     let p = possible m (t .passed) in
     record {
-      margin = omega (arith, margin-range (m .setting) (p .margin) .most);
+      margin = omega (arith, margin-range (marginOf m) (p .margin) .most);
       n-pos = pos-of-ne-zero (eqb-false _ 0 (t .n-some));
       sq-pos = pos-of-ne-zero (eqb-false _ 0 (t .sq-some));
       sq-max = omega (arith, p .sq-max, p .n-max);

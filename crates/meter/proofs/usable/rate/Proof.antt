@@ -28,11 +28,11 @@ usable m r e q = sym (simp e q)
 
 -- the conditions after the code's own
 tests : (m : Meter) (r : Rate) {b : Bool} → rateOf (m .setting .code) ≡ some r
-    → b ≡ anyOf (wrongMargin (m .setting) ∷ impossibleSums (m .state .sums) ∷ someBelow thresholds (impossibleCounter (r .i) (m .state)) ∷ []) → impossible m ≡ b
+    → b ≡ anyOf (wrongMargin (m .setting .margin .0) ∷ impossibleSums (m .state .sums) ∷ someBelow thresholds (impossibleCounter (r .i) (m .state)) ∷ []) → impossible m ≡ b
 unfolding impossible unnamedCode iOf
 tests m r e h =
     sym (go-on _ _ (ap not (is-named (m .setting .code) r e))
-    (h ∙ ap (λ (q : Rate). anyOf (wrongMargin (m .setting) ∷ impossibleSums (m .state .sums) ∷ someBelow thresholds (impossibleCounter (q .i) (m .state)) ∷ [])) (sym (row-is (m .setting .code) r e))))
+    (h ∙ ap (λ (q : Rate). anyOf (wrongMargin (m .setting .margin .0) ∷ impossibleSums (m .state .sums) ∷ someBelow thresholds (impossibleCounter (q .i) (m .state)) ∷ [])) (sym (row-is (m .setting .code) r e))))
 
 unnamed : (m : Meter) → rateOf (m .setting .code) ≡ none → impossible m ≡ true
 unfolding impossible unnamedCode
@@ -47,14 +47,14 @@ rate-is c = named-as _ _ _ (c .before .before .of .ensures) (c .rate .given .1)
 abbrev meter-at : tie.After-is-wrong → Meter
 meter-at c = c .before .before .before .before .before .args .m
 
-margin-test : (b : Bool) (c : tie.After-is-wrong) → c .is-wrong .result ≡ b → wrongMargin (meter-at c .setting) ≡ b
+margin-test : (b : Bool) (c : tie.After-is-wrong) → c .is-wrong .result ≡ b → wrongMargin (meter-at c .setting .margin .0) ≡ b
 margin-test b c e = sym (c .is-wrong .ensures) ∙ e
 
 sums-test : (b : Bool) (c : tie.After-impossible-sums) → c .impossible-sums .result ≡ b → impossibleSums (meter-at (c .before .before) .state .sums) ≡ b
 sums-test b c e = sym (c .impossible-sums .ensures) ∙ e
 
 -- past the margin, and past the sums
-past-margin : (c : tie.After-impossible-sums) {b : Bool} (rest : List Bool) → b ≡ anyOf rest → b ≡ anyOf (wrongMargin (meter-at (c .before .before) .setting) ∷ rest)
+past-margin : (c : tie.After-impossible-sums) {b : Bool} (rest : List Bool) → b ≡ anyOf rest → b ≡ anyOf (wrongMargin (meter-at (c .before .before) .setting .margin .0) ∷ rest)
 past-margin c rest h = go-on _ rest (margin-test false (c .before .before) (c .before .if1 .left)) h
 
 returns : tie.Need-returns
