@@ -16,7 +16,7 @@ use Rattle.refusal.proofs.Laws.{both}
 use Rattle.rate.specs.Rates.{rowOf, isNamed}
 use Rattle.rate.proofs.Laws.{row-keeps}
 use Rattle.setting.specs.declared.Setting.{Setting}
-use Rattle.setting.specs.Settings.{kOf, iOf}
+use Rattle.setting.specs.Settings.{kOf, iOf, wrongMargin}
 use Rattle.block.specs.Block.{numberAt, rateCode, count, before, samplesAt, samplesIn}
 use Rattle.block.specs.Refusals.{wrongRate, blockRules, sound}
 use Rattle.block.proofs.Laws.{sound-is, is-sound, signed-fits, samples-at-length}
@@ -24,7 +24,7 @@ use Rattle.sample.specs.declared.Counting.{Counting}
 use Rattle.sample.specs.Envelope.{smoothing}
 use Rattle.sample.specs.Sample.{mostSamples, freshState, stateAfter}
 use Rattle.meter.specs.declared.Meter.{Meter}
-use Rattle.meter.specs.Refusals.{unnamedCode, wrongMargin, longChunk, wrongPlace, tooMany, openRules, chunkRules, blockCallRules}
+use Rattle.meter.specs.Refusals.{unnamedCode, longChunk, wrongPlace, tooMany, openRules, chunkRules, blockCallRules}
 use Rattle.meter.specs.Calls.{fresh, countingOf, afterSamples, openCall, chunkCall, blockCall}
 use Rattle.meter.proofs.Laws.{open-given, chunk-given, block-given, opened}
 use Rattle.meter.proofs.Possible.{Possible, passes}

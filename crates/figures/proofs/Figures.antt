@@ -13,9 +13,9 @@ use Rattle.crossing.specs.Levels.{longTerm, activeAt, levelOfThreshold, excess}
 use Rattle.crossing.specs.Crossing.{isCrossing, highestBelow, crossing, lowerOf, activeLevel}
 use Rattle.crossing.specs.Searched.{levelsAt, noLevels, crossingIn, firstExcess}
 use Rattle.percent.specs.Percent.{notAbove}
-use Rattle.meter.specs.Refusals.{anyOf, someBelow, unnamedCode, wrongMargin, manySamples, largeSum, largeSquares, largeP, largeQ, impossibleSums, longHangover, largeCount, risingCount, fallingHangover, impossibleCounter, impossible, longChunk, wrongPlace, tooMany, openRules, chunkRules, blockCallRules}
+use Rattle.meter.specs.Refusals.{anyOf, someBelow, unnamedCode, manySamples, largeSum, largeSquares, largeP, largeQ, impossibleSums, longHangover, largeCount, risingCount, fallingHangover, impossibleCounter, impossible, longChunk, wrongPlace, tooMany, openRules, chunkRules, blockCallRules}
 use Rattle.meter.specs.Reports.{crossingOf, firstOfMeter, noSamples, noSignal, noActivity, levelBelow, levelAbove, reportRules, noReport, reportWith, reportAt, reportFor}
-use Rattle.setting.specs.Settings.{kOf, iOf}
+use Rattle.setting.specs.Settings.{kOf, iOf, wrongMargin}
 use Rattle.meter.specs.Calls.{fresh, zeroMeter, countingOf, afterSamples, openCall, chunkCall, blockCall, reportCall}
 use Rattle.exact.specs.Calls.{broughtBy}
 use Rattle.exact.specs.Exact.{startAt, start, distance, reaches, countNext, hangoverNext, takeOne, takeAll, accepts, fed, exactly}

@@ -12,9 +12,9 @@ use lib.ListN.{getD}
 use Rattle.level.specs.Types.{thresholds, activity, twoWords}
 use Rattle.rate.specs.Rates.{isNamed}
 use Rattle.sample.specs.Sample.{mostSamples}
-use Rattle.setting.specs.Settings.{iOf}
+use Rattle.setting.specs.Settings.{iOf, wrongMargin}
 use Rattle.meter.specs.declared.Meter.{Meter}
-use Rattle.meter.specs.Refusals.{sumBound, squareBound, envelopeBound, unnamedCode, wrongMargin, manySamples, largeSum, largeSquares, largeP, largeQ, impossibleSums, longHangover, largeCount, risingCount, fallingHangover, impossibleCounter, impossible}
+use Rattle.meter.specs.Refusals.{sumBound, squareBound, envelopeBound, unnamedCode, manySamples, largeSum, largeSquares, largeP, largeQ, impossibleSums, longHangover, largeCount, risingCount, fallingHangover, impossibleCounter, impossible}
 use Rattle.meter.proofs.Below.{NoneOf, none-of, of-none, none-below, each-below}
 
 pub record Possible (m : Meter) : Type 0 where

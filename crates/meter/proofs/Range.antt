@@ -7,7 +7,7 @@ use borrow.Author.Tests.{lt-ltb, ltb-false}
 use lib.Dec.{T}
 use lib.IntN.{ℤ, pos, negsuc, natAbs}
 use lib.Signed.{ltZ}
-use Rattle.meter.specs.Refusals.{leastMargin, largestMargin, wrongMargin}
+use Rattle.setting.specs.Settings.{leastMargin, largestMargin, wrongMargin}
 use Rattle.meter.proofs.Below.{neither}
 
 -- a margin from 1 to 22314

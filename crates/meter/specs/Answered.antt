@@ -11,9 +11,10 @@ use Rattle.level.specs.Types.{samplesOf, thresholds, activity, twoWords}
 use Rattle.crossing.specs.Levels.{longTerm, excess}
 use Rattle.crossing.specs.Crossing.{isCrossing, lowerOf, upperOf, activeLevel}
 use Rattle.percent.specs.Percent.{IsPercent}
+use Rattle.setting.specs.Settings.{isMarked}
 use Rattle.meter.specs.declared.Meter.{Meter}
 use Rattle.meter.specs.declared.Report.{Report}
-use Rattle.meter.specs.Reports.{marginOf, isMarked}
+use Rattle.meter.specs.Reports.{marginOf}
 
 -- lev(sq), and d_0
 abbrev pub powerOf : Meter → ℤ

@@ -3,9 +3,8 @@ use mathlib.Core.Bool.{Bool, false, not, _&&_, _||_}
 use mathlib.Core.List.{List, [], _∷_, _++_}
 use Prim.Native.Nat.{ℕ, zero, suc, _+_, _*_, _^_}
 use lib.Dec.{eqb, ltb}
-use lib.IntN.{ℤ, pos, natAbs}
+use lib.IntN.{ℤ, natAbs}
 use lib.ListN.{length, getD}
-use lib.Signed.{ltZ}
 use Rattle.level.specs.Types.{thresholds, activity, twoWords}
 use Rattle.rate.specs.Rates.{isNamed}
 use Rattle.refusal.specs.First.{Rule}
@@ -15,7 +14,7 @@ use Rattle.sample.specs.declared.State.{State}
 use Rattle.sample.specs.declared.Sums.{Sums}
 use Rattle.sample.specs.Sample.{mostSamples}
 use Rattle.setting.specs.declared.Setting.{Setting}
-use Rattle.setting.specs.Settings.{iOf}
+use Rattle.setting.specs.Settings.{iOf, wrongMargin}
 use Rattle.meter.specs.declared.Meter.{Meter}
 
 -- whether one of these holds
@@ -28,19 +27,9 @@ unfoldable pub someBelow : ℕ → (ℕ → Bool) → Bool
 someBelow zero f = false
 someBelow (suc k) f = someBelow k f || f k
 
--- 1: a code that names no rate
+-- 1: a code that names no rate; 17, a margin outside its range, is `wrongMargin` of the setting's crate
 unfoldable pub unnamedCode : Setting → Bool
 unnamedCode c = not (isNamed (c .code))
-
--- 17: a margin outside 1 to 22314 steps, of which 22314 is the most that is not above 16.4 dB
-abbrev pub leastMargin : ℤ
-leastMargin = pos 1
-
-abbrev pub largestMargin : ℤ
-largestMargin = pos 22314
-
-unfoldable pub wrongMargin : (M : ℤ) → Bool
-wrongMargin M = ltZ M leastMargin || ltZ largestMargin M
 
 -- the bounds of refusal 2: |s| and sq a sample, and P and Q
 abbrev pub sumBound : ℕ

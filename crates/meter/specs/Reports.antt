@@ -13,16 +13,13 @@ use Rattle.sample.specs.Sample.{each}
 use Rattle.crossing.specs.declared.Levels.{Levels}
 use Rattle.crossing.specs.Searched.{levelsAt, noLevels, crossingIn, firstExcess}
 use Rattle.percent.specs.Percent.{percentOf}
+use Rattle.setting.specs.Settings.{isMarked}
 use Rattle.meter.specs.declared.Report.{Report}
 use Rattle.meter.specs.Refusals.{impossible}
 
 -- M, the meter's margin
 abbrev pub marginOf : Meter → ℤ
 marginOf m = m .setting .margin .0
-
--- the mark of a margin: it is below 20955 steps, the fewest that are not below 15.4 dB
-abbrev pub isMarked : ℤ → Bool
-isMarked M = ltZ M (pos 20955)
 
 abbrev pub isNone : Option ℕ → Bool
 isNone none = true

@@ -1,7 +1,6 @@
 // The meter's calls (METHOD.md, "One sample", "The report" and "Why a call is refused"): what each
 // hands back.
 mod feeding;
-mod margin;
 mod opening;
 mod reporting;
 mod usable;

@@ -6,7 +6,6 @@ ghost use Rattle.meter.specs.Inner.{freshAt, refusedWith};
 use crate::Fed;
 use crate::Meter;
 use crate::feeding;
-use crate::margin;
 use level::Samples;
 use level::Squares;
 use level::Steps;
@@ -26,7 +25,7 @@ impl Meter {
     {
         match Rate::of(setting.code) {
             Named::As(rate) => {
-                if margin::is_wrong(setting.margin) {
+                if setting::wrong_margin(setting.margin) {
                     return unopened(Refusal::WrongMargin);
                 }
                 Fed {

@@ -8,7 +8,6 @@ ghost use Rattle.meter.specs.Refusals.{impossible};
 use crate::Meter;
 use crate::Report;
 use crate::Reported;
-use crate::margin;
 use crate::usable;
 use crossing::Found;
 use crossing::Levels;
@@ -78,7 +77,7 @@ fn reported(meter: Meter, levels: Levels) -> Reported
             levels,
             percent: percent::percentage(factor),
             margin,
-            mark: margin::is_marked(margin),
+            mark: setting::marked_margin(margin),
         },
     }
 }

@@ -8,7 +8,6 @@ ghost use Rattle.rate.specs.Rates.{named};
 ghost use Rattle.meter.specs.Inner.{NextPlace, usableRate};
 ghost use Rattle.meter.specs.Refusals.{anyOf, someBelow, squareBound, impossibleSums, impossibleCounter};
 use crate::Meter;
-use crate::margin;
 use level::Squares;
 use level::THRESHOLDS;
 use rate::Named;
@@ -33,7 +32,7 @@ pub(crate) fn rate(m: Meter) -> Named
 {
     match Rate::of(m.setting.code) {
         Named::As(rate) => {
-            if margin::is_wrong(m.setting.margin) {
+            if setting::wrong_margin(m.setting.margin) {
                 return Named::Nothing;
             }
             if impossible_sums(m.state.sums) {

@@ -1,6 +1,8 @@
--- The figures that a setting stands for: METHOD.md, "Rates"; and the usual setting of a rate code.
+-- The figures that a setting stands for, and the margins that it may have: METHOD.md, "Rates", "The report" and "Why a call is refused".
+use mathlib.Core.Bool.{Bool, _||_}
 use Prim.Native.Nat.{ℕ}
-use lib.IntN.{pos}
+use lib.IntN.{ℤ, pos}
+use lib.Signed.{ltZ}
 use Rattle.level.specs.Types.{stepsOf}
 use Rattle.rate.specs.Rates.{rowOf}
 use Rattle.setting.specs.declared.Setting.{Setting}
@@ -17,3 +19,17 @@ dOf c = rowOf (c .code) .d
 -- no offset, and the margin that P.56 names: 21635 steps, 15.9 dB
 abbrev pub usualSetting : (code : ℕ) → Setting
 usualSetting code = record { code = code; offset = pos 0; margin = stepsOf (pos 21635) }
+
+-- 17: a margin outside 1 to 22314 steps, of which 22314 is the most that is not above 16.4 dB
+abbrev pub leastMargin : ℤ
+leastMargin = pos 1
+
+abbrev pub largestMargin : ℤ
+largestMargin = pos 22314
+
+unfoldable pub wrongMargin : (M : ℤ) → Bool
+wrongMargin M = ltZ M leastMargin || ltZ largestMargin M
+
+-- the mark of a margin: it is below 20955 steps, the fewest that are not below 15.4 dB
+abbrev pub isMarked : ℤ → Bool
+isMarked M = ltZ M (pos 20955)

@@ -1,5 +1,9 @@
 // What is chosen when a meter is opened. The meter keeps it; of it the exact machine E is fed the code
 // and the offset.
+mod margin;
+
+pub use margin::marked_margin;
+pub use margin::wrong_margin;
 ghost use mathlib.Core.Path.{_≡_};
 ghost use Rattle.setting.specs.Settings.{usualSetting};
 use level::Steps;

@@ -7,9 +7,9 @@ use native.Mathlib.Omega.{arith}
 use Rattle.meter.proofs.Handing.{refusal, acceptance}
 use Rattle.meter.specs.Calls.{handedBy, openCall, fresh, zeroMeter}
 use Rattle.meter.specs.Inner.{refusedWith, freshAt}
-use Rattle.meter.specs.Refusals.{openRules, unnamedCode, wrongMargin}
+use Rattle.meter.specs.Refusals.{openRules, unnamedCode}
 use Rattle.setting.specs.declared.Setting.{Setting}
-use Rattle.setting.specs.Settings.{iOf}
+use Rattle.setting.specs.Settings.{iOf, wrongMargin}
 use Rattle.rate.proofs.Laws.{named-as, named-nothing, is-named, is-not-named, row-is}
 use Rattle.rate.specs.declared.Rate.{Rate}
 use Rattle.rate.specs.Rates.{rateOf}
@@ -18,7 +18,7 @@ use Rattle.meter.proofs.Meter.open.Statement.{statement}
 use Rattle.meter.proofs.Meter.open.Tie as tie
 
 -- what opening was asked for; its code names the rate that was found
-abbrev asked-at : tie.After-is-wrong → Setting
+abbrev asked-at : tie.After-wrong-margin → Setting
 asked-at c = c .before .before .before .before .before .args .setting
 
 rate-is : (c : tie.After-rate) → rateOf (c .before .before .before .args .setting .code) ≡ some (c .rate .given .0 .0)
@@ -35,7 +35,7 @@ returns c =
     let s = asked-at w in
     c .unopened .ensures
     ∙ refusal 17 (openRules s) (fresh s) zeroMeter (omega arith)
-    (past 1 (unnamedCode s) _ (named (w .before .before)) (here 17 (wrongMargin (s .margin .0)) _ (sym (w .is-wrong .ensures) ∙ c .before .if1 .taken)))
+    (past 1 (unnamedCode s) _ (named (w .before .before)) (here 17 (wrongMargin (s .margin .0)) _ (sym (w .wrong-margin .ensures) ∙ c .before .if1 .taken)))
 
 returns-2 : tie.Need-returns-2
 unfolding handedBy openCall openRules fresh freshAt iOf
@@ -45,7 +45,7 @@ returns-2 c =
     let r = w .before .before in
     ap (refusedWith 0) (c .fresh .ensures ∙ ap (freshAt s) (sym (ap (λ (x : Rate). x .i) (row-is (s .code) _ (rate-is r)))))
     ∙ acceptance (openRules s) (fresh s) zeroMeter
-    (past 1 (unnamedCode s) _ (named r) (past 17 (wrongMargin (s .margin .0)) _ (sym (w .is-wrong .ensures) ∙ c .before .if1 .left) none))
+    (past 1 (unnamedCode s) _ (named r) (past 17 (wrongMargin (s .margin .0)) _ (sym (w .wrong-margin .ensures) ∙ c .before .if1 .left) none))
 
 returns-3 : tie.Need-returns-3
 unfolding openCall openRules unnamedCode

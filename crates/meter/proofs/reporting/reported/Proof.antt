@@ -12,7 +12,7 @@ returns : tie.Need-returns
 unfolding reportedBy reportedWith reportWith
 returns c =
     let sums = c .before .before .before .before .before .before .before .before .before .args .meter .state .sums in
-    rw (toZ-ofZ {w = w64} {z = sums .s} (record { sfits = c .struct-told .given .1 .0 .1 }), c .before .before .percentage .ensures, c .before .is-marked .ensures)
+    rw (toZ-ofZ {w = w64} {z = sums .s} (record { sfits = c .struct-told .given .1 .0 .1 }), c .before .before .percentage .ensures, c .before .marked-margin .ensures)
 
 pub reported-spec : {M : Type 1} → statement M
 reported-spec = tie.close (tie.spec (λ c κs. search needs) (λ c κs. search needs) returns)

@@ -8,10 +8,10 @@ use Rattle.level.specs.Types.{thresholds}
 use Rattle.rate.specs.declared.Rate.{Rate}
 use Rattle.rate.specs.Rates.{named, rateOf}
 use Rattle.rate.proofs.Laws.{named-as, named-nothing, is-named, is-not-named, row-is}
-use Rattle.setting.specs.Settings.{iOf}
+use Rattle.setting.specs.Settings.{iOf, wrongMargin}
 use Rattle.meter.specs.declared.Meter.{Meter}
 use Rattle.meter.specs.Inner.{usableRate}
-use Rattle.meter.specs.Refusals.{anyOf, someBelow, unnamedCode, wrongMargin, impossibleSums, impossibleCounter, impossible}
+use Rattle.meter.specs.Refusals.{anyOf, someBelow, unnamedCode, impossibleSums, impossibleCounter, impossible}
 use Rattle.meter.proofs.Below.{stop, go-on, at-last}
 use Rattle.meter.proofs.usable.rate.Statement.{statement}
 use Rattle.meter.proofs.usable.rate.Tie as tie
@@ -44,11 +44,11 @@ rate-is : (c : tie.After-rate) → rateOf (c .before .before .before .args .m .s
 rate-is c = named-as _ _ _ (c .before .before .of .ensures) (c .rate .given .1)
 
 -- the meter, and each test that was passed or not, as the definition has it
-abbrev meter-at : tie.After-is-wrong → Meter
+abbrev meter-at : tie.After-wrong-margin → Meter
 meter-at c = c .before .before .before .before .before .args .m
 
-margin-test : (b : Bool) (c : tie.After-is-wrong) → c .is-wrong .result ≡ b → wrongMargin (meter-at c .setting .margin .0) ≡ b
-margin-test b c e = sym (c .is-wrong .ensures) ∙ e
+margin-test : (b : Bool) (c : tie.After-wrong-margin) → c .wrong-margin .result ≡ b → wrongMargin (meter-at c .setting .margin .0) ≡ b
+margin-test b c e = sym (c .wrong-margin .ensures) ∙ e
 
 sums-test : (b : Bool) (c : tie.After-impossible-sums) → c .impossible-sums .result ≡ b → impossibleSums (meter-at (c .before .before) .state .sums) ≡ b
 sums-test b c e = sym (c .impossible-sums .ensures) ∙ e

@@ -1,7 +1,6 @@
-// The margin of a meter: its range, and the mark that a report has beside it.
+// Margins: their range, and the mark that a report has beside its own.
 ghost use mathlib.Core.Path.{_≡_};
-ghost use Rattle.meter.specs.Refusals.{wrongMargin};
-ghost use Rattle.meter.specs.Reports.{isMarked};
+ghost use Rattle.setting.specs.Settings.{wrongMargin, isMarked};
 use level::Steps;
 
 // The least margin and the largest, in steps; the largest is just under 16.4 dB.
@@ -13,7 +12,7 @@ const LARGEST: i64 = 22314;
 const MARKED_BELOW: i64 = 20955;
 
 // Whether a margin is out of range.
-pub(crate) fn is_wrong(margin: Steps) -> bool
+pub fn wrong_margin(margin: Steps) -> bool
     ensures { λ r. ⌜ r ≡ wrongMargin (margin .0) ⌝ }
 {
     if margin.value() < LEAST {
@@ -23,7 +22,7 @@ pub(crate) fn is_wrong(margin: Steps) -> bool
 }
 
 // Whether a margin is marked.
-pub(crate) fn is_marked(margin: Steps) -> bool
+pub fn marked_margin(margin: Steps) -> bool
     ensures { λ r. ⌜ r ≡ isMarked (margin .0) ⌝ }
 {
     margin.value() < MARKED_BELOW

@@ -7,9 +7,9 @@ use lib.Signed.{ltZ}
 use mir.Syntax.{w64}
 use mir.Val.{toZ, ofZ}
 use Rattle.signed.proofs.Sizes.{word}
-use Rattle.meter.specs.Refusals.{leastMargin, largestMargin, wrongMargin}
-use Rattle.meter.proofs.margin.is_wrong.Statement.{statement}
-use Rattle.meter.proofs.margin.is_wrong.Tie as tie
+use Rattle.setting.specs.Settings.{leastMargin, largestMargin, wrongMargin}
+use Rattle.setting.proofs.margin.wrong_margin.Statement.{statement}
+use Rattle.setting.proofs.margin.wrong_margin.Tie as tie
 
 -- where the first test came out so, the second decides
 first : (c : tie.After-value) (b : Bool) → ltZ (toZ w64 (ofZ w64 (c .value .result))) leastMargin ≡ b
@@ -25,5 +25,5 @@ returns c = first (c .before) _ (c .if1 .taken)
 returns-2 : tie.Need-returns-2
 returns-2 c = ap (ltZ largestMargin) (word (c .value2 .ok) (c .value2 .ensures)) ∙ first (c .before .before) _ (c .before .if1 .left)
 
-pub is-wrong-spec : {M : Type 1} → statement M
-is-wrong-spec = tie.close (tie.spec (λ c κs. search needs) returns (λ c κs. search needs) returns-2)
+pub wrong-margin-spec : {M : Type 1} → statement M
+wrong-margin-spec = tie.close (tie.spec (λ c κs. search needs) returns (λ c κs. search needs) returns-2)
