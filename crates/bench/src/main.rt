@@ -26,12 +26,12 @@ fn measured(held: &[u8]) -> Meter {
         return Meter::open(Setting::usual(0)).meter;
     }
     let mut offset = [0i16; 1];
-    block::decode(&held[5..7], &mut offset);
+    coding::decode(&held[5..7], &mut offset);
     let part = &held[7..];
     let mut samples = [0i16; 32768];
-    block::decode(part, &mut samples);
-    let count = block::least(part.len() / 2, 32768);
-    let usual = Setting::usual(block::one_byte(held, 0) as u32);
+    coding::decode(part, &mut samples);
+    let count = coding::least(part.len() / 2, 32768);
+    let usual = Setting::usual(coding::one_byte(held, 0) as u32);
     let margin = usual.margin;
     let fresh = Meter::open(Setting {
         code: usual.code,
@@ -40,7 +40,7 @@ fn measured(held: &[u8]) -> Meter {
     });
     repeated(
         fresh.meter,
-        block::two_bytes(held, 1),
+        coding::two_bytes(held, 1),
         chunk_length(held),
         &samples[0..count],
     )
@@ -50,7 +50,7 @@ fn measured(held: &[u8]) -> Meter {
 fn chunk_length(held: &[u8]) -> usize
     ensures { λ r. ⌜ 0 < r ⌝ }
 {
-    let length = block::two_bytes(held, 3) as usize;
+    let length = coding::two_bytes(held, 3) as usize;
     if length == 0 {
         return 4096;
     }

@@ -3,11 +3,16 @@ use mathlib.Core.Bool.{Bool, true, false, not, _&&_}
 use mathlib.Core.List.{List}
 use mathlib.Core.Path.{_≡_, refl, sym, ap, _∙_}
 use Prim.Native.Nat.{ℕ, _+_, _-_, _*_, _≤_, _<_}
-use borrow.Author.Tests.{eq-eqb, ne-eqb, le-leb, lt-leb}
-use lib.Dec.{eqb}
+use native.Mathlib.Omega.{arith}
+use borrow.Author.Tests.{eq-eqb, ne-eqb, eqb-true, le-leb, lt-leb, leb-true, ltb-true, ltb-false, not-false}
+use lib.Dec.{eqb, ltb, leb}
 use lib.ListN.{length}
-use Rattle.block.specs.Block.{numberAt, kind, rateCode, count, checkSum, weightedSum}
+use Rattle.level.specs.Types.{mostSamples}
+use Rattle.refusal.proofs.Laws.{both}
+use Rattle.coding.specs.Numbers.{numberAt}
+use Rattle.block.specs.Block.{kind, rateCode, count, checkSum, weightedSum}
 use Rattle.block.specs.Refusals.{wrongLength, wrongCheck, wrongKind, wrongRate, wrongCount, usedUnused, zeros}
+use Rattle.block.specs.Written.{unwritable}
 
 not-not : (b : Bool) → b ≡ not (not b)
 not-not true = refl
@@ -39,6 +44,14 @@ module _ (b : List ℕ) where
       sym (ap (λ (x : Bool). x && eqb (numberAt b 510 2) (weightedSum b)) (eq-eqb (numberAt b 508 2) (checkSum b) e))
       ∙ not-not (eqb (numberAt b 508 2) (checkSum b) && eqb (numberAt b 510 2) (weightedSum b))
 
+  pub check-right : numberAt b 508 2 ≡ checkSum b → numberAt b 510 2 ≡ weightedSum b → wrongCheck b ≡ false
+  unfolding wrongCheck
+  check-right e f = simp (eq-eqb (numberAt b 508 2) (checkSum b) e, eq-eqb (numberAt b 510 2) (weightedSum b) f)
+
+  pub checks-are : wrongCheck b ≡ false → (numberAt b 508 2 ≡ checkSum b) × (numberAt b 510 2 ≡ weightedSum b)
+  unfolding wrongCheck
+  checks-are h = let t = both _ _ (not-false _ h) in (eqb-true _ _ (t .0), eqb-true _ _ (t .1))
+
   pub kind-off : (kind b ≡ 1 → ⊥) → wrongKind b ≡ true
   unfolding wrongKind
   kind-off f = ap not (ne-eqb (kind b) 1 f)
@@ -46,6 +59,10 @@ module _ (b : List ℕ) where
   pub kind-right : kind b ≡ 1 → wrongKind b ≡ false
   unfolding wrongKind
   kind-right e = ap not (eq-eqb (kind b) 1 e)
+
+  pub kind-is : wrongKind b ≡ false → kind b ≡ 1
+  unfolding wrongKind
+  kind-is h = eqb-true _ _ (not-false _ h)
 
   pub rate-off : (code : ℕ) → (rateCode b ≡ code → ⊥) → wrongRate b code ≡ true
   unfolding wrongRate
@@ -70,3 +87,33 @@ module _ (b : List ℕ) where
   pub unused-is : (at : ℕ) → at ≡ 12 + 2 * count b → zeros b at (508 - at) ≡ not (usedUnused b)
   unfolding usedUnused
   unused-is at e = ap (λ (x : ℕ). zeros b x (508 - x)) e ∙ not-not (zeros b (12 + 2 * count b) (508 - (12 + 2 * count b)))
+
+-- ---- 18
+
+pub none-writable : (n k : ℕ) → k < 1 → unwritable n k ≡ true
+unfolding unwritable
+none-writable n k h = simp (lt-leb 1 k h)
+
+pub many-writable : (n k : ℕ) → 1 ≤ k → 248 < k → unwritable n k ≡ true
+unfolding unwritable
+many-writable n k l h = simp (le-leb 1 k l, lt-leb k 248 h)
+
+pub writable-is : (n k : ℕ) → 1 ≤ k → k ≤ 248 → n + k ≤ mostSamples → unwritable n k ≡ false
+unfolding unwritable
+writable-is n k some few end = simp (le-leb 1 k some, le-leb k 248 few, le-leb (n + k) mostSamples end)
+
+pub writable-facts : (n k : ℕ) → unwritable n k ≡ false → (1 ≤ k) × (k ≤ 248) × (n + k ≤ mostSamples)
+unfolding unwritable
+writable-facts n k h =
+    let t = both _ _ (not-false _ h) in
+    let u = both _ _ (t .0) in
+    (leb-true _ _ (u .0), leb-true _ _ (u .1), leb-true _ _ (t .1))
+
+-- the last test, of the number before against what 2^48 leaves room for
+pub end-writable : (n k : ℕ) → 1 ≤ k → k ≤ 248 → ltb (mostSamples - k) n ≡ unwritable n k
+unfolding unwritable
+end-writable n k l h = go (ltb (mostSamples - k) n) refl
+  where
+    go : (t : Bool) → ltb (mostSamples - k) n ≡ t → t ≡ not (leb 1 k && leb k 248 && leb (n + k) mostSamples)
+    go true e = sym (simp (le-leb 1 k l, le-leb k 248 h, lt-leb (n + k) mostSamples (omega (arith, ltb-true (mostSamples - k) n e))))
+    go false e = sym (simp (le-leb 1 k l, le-leb k 248 h, le-leb (n + k) mostSamples (omega (arith, ltb-false (mostSamples - k) n e))))

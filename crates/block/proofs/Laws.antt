@@ -16,7 +16,10 @@ use lib.Seq.{getD-take, getD-drop, length-take-le, take-at}
 use Rattle.refusal.specs.First.{firstOf, NoneApplies, numbered, rising, Given, Lowest}
 use Rattle.refusal.proofs.Laws.{past, given, given-lowest, both}
 use Rattle.rate.specs.Rates.{isNamed}
-use Rattle.block.specs.Block.{numberAt, rateCode, count, signed, samplesAt, samplesIn, decodedInto}
+use Rattle.coding.specs.Numbers.{numberAt}
+use Rattle.coding.specs.Samples.{signed, samplesAt}
+use Rattle.coding.proofs.Laws.{samples-at-length}
+use Rattle.block.specs.Block.{rateCode, count, samplesIn}
 use Rattle.block.specs.Refusals.{wrongLength, wrongCheck, wrongKind, wrongRate, wrongCount, usedUnused, blockRules, sound, samplesPart, hostRules, hostCheck}
 use Rattle.block.proofs.Conditions.{length-off, rate-right}
 
@@ -165,44 +168,9 @@ part-reads b h =
     ∙ samples-part b 12 (2 * count b) (count b) 0 (omega arith)
 
 -- as many as the count says
-pub samples-at-length : (b : List ℕ) (at k : ℕ) → length (samplesAt b at k) ≡ k
-unfolding samplesAt
-samples-at-length b at zero = refl
-samples-at-length b at (suc k) = ap suc (samples-at-length b (at + 2) k)
-
 pub samples-length : (b : List ℕ) → length (samplesIn b) ≡ count b
 unfolding samplesIn
 samples-length b = samples-at-length b 12 (count b)
-
--- ---- a buffer that samples were put into
-
--- keeps its length
-pub decoded-length : (b : List ℕ) (xs : List ℤ) → length (decodedInto b xs) ≡ length xs
-unfolding decodedInto
-decoded-length b xs =
-    let k = min (length b / 2) (length xs) in
-    length-append (samplesAt b 0 k) (drop k xs) ∙ omega (arith, samples-at-length b 0 k, length-drop k xs)
-
--- and where all samples found room, they are its first
-pub decoded-first : (b : List ℕ) (xs : List ℤ) → length b / 2 ≤ length xs → take (length b / 2) (decodedInto b xs) ≡ samplesAt b 0 (length b / 2)
-unfolding decodedInto
-decoded-first b xs h =
-    let e : min (length b / 2) (length xs) ≡ length b / 2 = omega arith in
-    ap (λ (k : ℕ). take (length b / 2) (samplesAt b 0 k ++ drop k xs)) e
-    ∙ take-at (samplesAt b 0 (length b / 2)) (drop (length b / 2) xs) (length b / 2) (samples-at-length b 0 (length b / 2))
-
--- a sample is a signed 16-bit number
-pub signed-fits : (w : ℕ) → SFits w16 (signed w)
-unfolding signed
-signed-fits w = go (ltb w (2 ^ 15)) refl
-  where
-    negative : (n : ℕ) → n ≤ 2 ^ 15 → SFits w16 (negℤ (pos n))
-    negative zero h = record { sfits = omega arith }
-    negative (suc n) h = record { sfits = omega arith }
-
-    go : (t : Bool) → ltb w (2 ^ 15) ≡ t → SFits w16 (cond t (pos w) (negℤ (pos (2 ^ 16 - w))))
-    go true e = record { sfits = omega (arith, ltb-true w (2 ^ 15) e) }
-    go false e = negative (2 ^ 16 - w) (omega (arith, ltb-false w (2 ^ 15) e))
 
 -- ---- the host
 

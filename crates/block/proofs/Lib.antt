@@ -1,4 +1,4 @@
 mod Conditions
-mod Decoding
 pub mod Laws
+pub mod Made
 mod Numbers

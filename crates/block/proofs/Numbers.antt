@@ -1,50 +1,21 @@
--- Numbers by their parts, and the loops over a block's bytes and words, a turn each.
+-- The fields of a block by name, runs of zeros, and the sums over its words.
 use mathlib.Core.Bool.{true, false, _&&_}
-use mathlib.Core.List.{List}
+use mathlib.Core.List.{List, _∷_, [], _++_}
 use mathlib.Core.Path.{_≡_, refl, sym, ap, ap₂, _∙_}
 use Prim.Native.Nat.{ℕ, zero, suc, _+_, _-_, _*_, _^_, _≤_, _<_}
 use native.Mathlib.Omega.{arith}
-use native.Mathlib.Nat.{mul-le-mul, add-assoc, add-zero}
+use native.Mathlib.Nat.{mul-le-mul, add-zero}
 use native.Mathlib.Numerals.{add-one}
-use borrow.Author.Tests.{eq-eqb, ne-eqb}
+use borrow.Author.Tests.{eq-eqb, ne-eqb, eqb-true}
 use lib.Dec.{eqb}
-use lib.ListN.{length, getD, drop, List·getD-eq-default}
-use lib.Seq.{getD-drop}
-use Rattle.block.specs.Block.{numberAt, kind, rateCode, count, before, sumBelow}
+use lib.ListN.{length, getD, drop, replicate}
+use lib.Seq.{drop-cons}
+use Rattle.coding.specs.Numbers.{numberAt}
+use Rattle.coding.proofs.Bytes.{first-is, rest-is}
+use Rattle.coding.proofs.Numbers.{one-byte}
+use Rattle.refusal.proofs.Laws.{both}
+use Rattle.block.specs.Block.{kind, rateCode, count, before, sumBelow}
 use Rattle.block.specs.Refusals.{zeros}
-
-pub one-byte : (b : List ℕ) (at : ℕ) → getD b at 0 ≡ numberAt b at 1
-unfolding numberAt
-one-byte b at = omega arith
-
--- a byte past the end
-pub no-byte : (b : List ℕ) (at : ℕ) → length b ≤ at → 0 ≡ numberAt b at 1
-no-byte b at h = sym (List·getD-eq-default b 0 h) ∙ one-byte b at
-
-pub two-bytes : (b : List ℕ) (at : ℕ) → getD b at 0 + 256 * getD b (at + 1) 0 ≡ numberAt b at 2
-unfolding numberAt
-two-bytes b at = omega arith
-
--- a number is its first two bytes and the rest
-low-two : (b : List ℕ) (at size : ℕ) → numberAt b at 2 + 65536 * numberAt b (at + 2) size ≡ numberAt b at (suc (suc size))
-unfolding numberAt
-low-two b at size = let e : numberAt b (at + 1 + 1) size ≡ numberAt b (at + 2) size = ap (λ (n : ℕ). numberAt b n size) (add-assoc at 1 1) in omega arith
-
-pub four-bytes : (b : List ℕ) (at : ℕ) → numberAt b at 2 + 65536 * numberAt b (at + 2) 2 ≡ numberAt b at 4
-four-bytes b at = low-two b at 2
-
-pub eight-bytes : (b : List ℕ) → numberAt b 0 4 + 4294967296 * numberAt b 4 4 ≡ numberAt b 0 8
-eight-bytes b = omega (arith, low-two b 0 6, low-two b 2 4, four-bytes b 0)
-
--- a number in what follows a place is the number that far on
-past : (b : List ℕ) (at i size : ℕ) → numberAt (drop at b) i size ≡ numberAt b (at + i) size
-unfolding numberAt
-past b at i zero = refl
-past b at i (suc size) =
-    ap₂ (λ (x y : ℕ). x + 256 * y) (getD-drop at b i 0) (past b at (i + 1) size ∙ ap (λ (n : ℕ). numberAt b n size) (sym (add-assoc at i 1)))
-
-pub from-place : (b : List ℕ) (at size : ℕ) → numberAt (drop at b) 0 size ≡ numberAt b at size
-from-place b at size = past b at 0 size ∙ ap (λ (n : ℕ). numberAt b n size) (add-zero at)
 
 pub before-is : (b : List ℕ) → numberAt b 4 8 ≡ before b
 unfolding before
@@ -77,6 +48,23 @@ zeros-stop b at k h f = zeros-suc b at k h ∙ simp (ne-eqb (getD b at 0) 0 f)
 
 pub zeros-on : (b : List ℕ) (at k : ℕ) → 0 < k → getD b at 0 ≡ 0 → zeros b (at + 1) (k - 1) ≡ zeros b at k
 zeros-on b at k h e = sym (zeros-suc b at k h ∙ simp (eq-eqb (getD b at 0) 0 e))
+
+-- zeros put down are found, and those found are put down again
+pub read-zeros : (b : List ℕ) (k at : ℕ) (r : List ℕ) → drop at b ≡ replicate k 0 ++ r → zeros b at k ≡ true
+unfolding zeros
+read-zeros b zero at r e = refl
+read-zeros b (suc k) at r e =
+    simp (eq-eqb (getD b at 0) 0 (first-is b at 0 (replicate k 0 ++ r) e), read-zeros b k (at + 1) r (rest-is b at 1 (0 ∷ []) (replicate k 0 ++ r) e refl))
+
+pub again-zeros : (b : List ℕ) (k at : ℕ) → at + k ≤ length b → zeros b at k ≡ true → replicate k 0 ++ drop (at + k) b ≡ drop at b
+unfolding zeros
+again-zeros b zero at h z = ap (λ (n : ℕ). drop n b) (add-zero at)
+again-zeros b (suc k) at h z =
+    let t = both (eqb (getD b at 0) 0) (zeros b (at + 1) k) z in
+    let next : at + suc k ≡ at + 1 + k = omega arith in
+    ap₂ _∷_ (sym (eqb-true (getD b at 0) 0 (t .0)))
+    (ap (λ (n : ℕ). replicate k 0 ++ drop n b) next ∙ again-zeros b k (at + 1) (omega arith) (t .1) ∙ ap (λ (n : ℕ). drop n b) (add-one at))
+    ∙ sym (drop-cons b at 0 (omega arith))
 
 -- ---- a sum
 

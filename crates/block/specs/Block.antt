@@ -1,15 +1,9 @@
 -- Sample blocks: METHOD.md, "Sample blocks". A block is a list of bytes, of any length: what lies past its end reads as 0.
-use mathlib.Core.Bool.{cond}
-use mathlib.Core.List.{List, [], _∷_, _++_}
-use Prim.Native.Nat.{ℕ, zero, suc, _+_, _-_, _*_, _/_, _%_, _^_, min}
-use lib.Dec.{ltb}
-use lib.IntN.{ℤ, pos, negℤ}
-use lib.ListN.{length, getD, drop}
-
--- the number in the bytes of b from at on, as many as size says, little-endian
-unfoldable pub numberAt : List ℕ → ℕ → ℕ → ℕ
-numberAt b at zero = 0
-numberAt b at (suc size) = getD b at 0 + 256 * numberAt b (at + 1) size
+use mathlib.Core.List.{List}
+use Prim.Native.Nat.{ℕ, zero, suc, _+_, _-_, _*_, _%_}
+use lib.IntN.{ℤ}
+use Rattle.coding.specs.Numbers.{numberAt}
+use Rattle.coding.specs.Samples.{samplesAt}
 
 -- the fields
 unfoldable pub kind : List ℕ → ℕ
@@ -23,19 +17,6 @@ count b = numberAt b 2 2
 
 unfoldable pub before : List ℕ → ℕ
 before b = numberAt b 4 8
-
--- two's complement of 16 bits
-unfoldable pub signed : ℕ → ℤ
-signed w = cond (ltb w (2 ^ 15)) (pos w) (negℤ (pos (2 ^ 16 - w)))
-
--- the samples in the bytes of b from at on, as many as k says, two bytes each
-unfoldable pub samplesAt : List ℕ → ℕ → ℕ → List ℤ
-samplesAt b at zero = []
-samplesAt b at (suc k) = signed (numberAt b at 2) ∷ samplesAt b (at + 2) k
-
--- a buffer xs once the samples in b, two bytes each, stand in its first places, as far as both go; what it held past them stays
-unfoldable pub decodedInto : List ℕ → List ℤ → List ℤ
-decodedInto b xs = let k = min (length b / 2) (length xs) in samplesAt b 0 k ++ drop k xs
 
 -- the samples of a block
 unfoldable pub samplesIn : List ℕ → List ℤ

@@ -7,7 +7,8 @@ use lib.Dec.{eqb, leb}
 use lib.ListN.{length, getD, take, drop}
 use Rattle.refusal.specs.First.{Rule, firstOf}
 use Rattle.rate.specs.Rates.{isNamed}
-use Rattle.block.specs.Block.{numberAt, kind, rateCode, count, checkSum, weightedSum}
+use Rattle.coding.specs.Numbers.{numberAt}
+use Rattle.block.specs.Block.{kind, rateCode, count, checkSum, weightedSum}
 
 -- 4: not 512 bytes long
 unfoldable pub wrongLength : List ℕ → Bool

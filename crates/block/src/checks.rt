@@ -18,14 +18,14 @@ pub fn checked(block: &[u8]) -> bool
     fields::word(block, 510) == right.weighted
 }
 
-struct CheckWords {
-    sum: usize,
-    weighted: usize,
+pub struct CheckWords {
+    pub sum: usize,
+    pub weighted: usize,
 }
 
 // The check words that the first 254 words ask for: both sums in one pass, far below 2^64, and one
 // remainder at the end of each.
-fn check_words(block: &[u8]) -> CheckWords
+pub fn check_words(block: &[u8]) -> CheckWords
     requires { ⌜ length (now block) ≡ 512 ⌝ }
     ensures { λ r. ⌜ (r .sum ≡ checkSum (now (block .entry))) × (r .weighted ≡ weightedSum (now (block .entry))) ⌝ }
 {

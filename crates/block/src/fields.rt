@@ -2,7 +2,8 @@
 ghost use mathlib.Core.Path.{_≡_};
 ghost use Prim.Native.Nat.{_+_, _-_, _≤_, _<_, _^_};
 ghost use lib.ListN.{length};
-ghost use Rattle.block.specs.Block.{numberAt, kind as kindIn};
+ghost use Rattle.coding.specs.Numbers.{numberAt};
+ghost use Rattle.block.specs.Block.{kind as kindIn};
 ghost use Rattle.block.specs.Refusals.{zeros};
 
 pub fn kind(block: &[u8]) -> u8

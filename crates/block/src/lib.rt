@@ -1,25 +1,33 @@
 // Sample blocks (METHOD.md, "Sample blocks"): why one is refused, the part that carries its
-// samples, the check that the line host calls, and numbers and samples from bytes.
+// samples, the check that the line host calls, and a block made from samples.
 mod checks;
 mod fields;
-mod reading;
-mod samples;
+mod writing;
 
 ghost use mathlib.Core.List.{[], _∷_};
 ghost use mathlib.Core.Path.{_≡_};
 ghost use lib.ListN.{length};
 ghost use Rattle.refusal.specs.First.{firstOf};
 ghost use Rattle.refusal.specs.Number.{numberGiven};
+ghost use Rattle.block.specs.Block.{rateCode, before as beforeIn};
 ghost use Rattle.block.specs.Refusals.{wrongCount, usedUnused, blockRules, sound, samplesPart, hostCheck};
-pub use reading::before;
-pub use reading::eight_bytes;
-pub use reading::one_byte;
-pub use reading::rate_code;
-pub use reading::two_bytes;
 use refusal::Answer;
 use refusal::Refusal;
-pub use samples::decode;
-pub use samples::least;
+pub use writing::write;
+
+// The rate code of a block.
+pub fn rate_code(bytes: &[u8]) -> u32
+    ensures { λ r. ⌜ r ≡ rateCode (now (bytes .entry)) ⌝ }
+{
+    coding::one_byte(bytes, 1) as u32
+}
+
+// The number of samples before a block.
+pub fn before(bytes: &[u8]) -> u64
+    ensures { λ r. ⌜ r ≡ beforeIn (now (bytes .entry)) ⌝ }
+{
+    coding::eight_bytes(bytes, 4)
+}
 
 // The bytes of a sound block's samples; of any other block, none.
 pub fn samples_part(block: &[u8]) -> &[u8]

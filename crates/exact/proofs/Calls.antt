@@ -11,24 +11,29 @@ use lib.IntN.{ℤ}
 use lib.ListN.{length, getD}
 use mir.Syntax.{w16}
 use mir.Val.{SFits}
+use Rattle.level.specs.Types.{mostSamples}
 use Rattle.refusal.specs.First.{NoneApplies}
 use Rattle.refusal.proofs.Laws.{both}
 use Rattle.rate.specs.Rates.{rowOf, isNamed}
 use Rattle.rate.proofs.Laws.{row-keeps}
 use Rattle.setting.specs.declared.Setting.{Setting}
 use Rattle.setting.specs.Settings.{kOf, iOf, wrongMargin}
-use Rattle.block.specs.Block.{numberAt, rateCode, count, before, samplesAt, samplesIn}
+use Rattle.coding.specs.Numbers.{numberAt}
+use Rattle.coding.specs.Samples.{samplesAt}
+use Rattle.coding.specs.Typed.{AllSamples}
+use Rattle.coding.proofs.Laws.{signed-fits, samples-at-length}
+use Rattle.block.specs.Block.{rateCode, count, before, samplesIn}
 use Rattle.block.specs.Refusals.{wrongRate, blockRules, sound}
-use Rattle.block.proofs.Laws.{sound-is, is-sound, signed-fits, samples-at-length}
+use Rattle.block.proofs.Laws.{sound-is, is-sound}
 use Rattle.sample.specs.declared.Counting.{Counting}
 use Rattle.sample.specs.Envelope.{smoothing}
-use Rattle.sample.specs.Sample.{mostSamples, freshState, stateAfter}
+use Rattle.sample.specs.Sample.{freshState, stateAfter}
 use Rattle.meter.specs.declared.Meter.{Meter}
 use Rattle.meter.specs.Refusals.{unnamedCode, longChunk, wrongPlace, tooMany, openRules, chunkRules, blockCallRules}
 use Rattle.meter.specs.Calls.{fresh, countingOf, afterSamples, openCall, chunkCall, blockCall}
 use Rattle.meter.proofs.Laws.{open-given, chunk-given, block-given, opened}
 use Rattle.meter.proofs.Possible.{Possible, passes}
-use Rattle.exact.specs.Calls.{Call, chunk, block, AllSamples, Typed, broughtBy}
+use Rattle.exact.specs.Calls.{Call, chunk, block, Typed, broughtBy}
 use Rattle.exact.specs.Demands.{TypedOffset, exactAt}
 use Rattle.exact.specs.Exact.{E, startAt, start, takeAll, accepts, fed, exactly, answersOfE, took}
 use Rattle.exact.specs.Lists.{called, accepted, after, answers, taken}

@@ -1,6 +1,7 @@
 -- The whole claim: `claim`. Each clause is a theorem of its own, of the meter's crate or of this one.
 use mathlib.Core.Path.{sym, subst}
 use Rattle.block.proofs.Laws.{host-given}
+use Rattle.block.proofs.Made.{write-given, unwritten, afresh}
 use Rattle.sample.proofs.Thresholds.{worked-out}
 use Rattle.meter.specs.Opened.{Fresh}
 use Rattle.meter.proofs.Laws.{open-given, chunk-given, block-given, report-given, refused-chunk, refused-block, report-meter, refused-report, refused-open, zeros-chunk, zeros-block, zeros-report, opened, fresh-fields, factor-never-above, percent-never-smaller, block-taken, block-samples, chunk-samples, empty-chunk}
@@ -11,6 +12,7 @@ use Rattle.exact.proofs.Demand3.{demand3}
 use Rattle.exact.proofs.Lost.{nothing-lost, measured}
 use Rattle.exact.proofs.Margins.{any-margin}
 use Rattle.exact.proofs.NoOffset.{no-offset}
+use Rattle.exact.proofs.Written.{reads-back}
 
 demand1 : Demand1
 demand1 =
@@ -21,6 +23,7 @@ demand1 =
       block-number = block-given;
       report-number = report-given;
       host-number = host-given;
+      write-number = write-given;
       chunk-refused = refused-chunk;
       block-refused = refused-block;
       report-hands-back = report-meter;
@@ -29,6 +32,7 @@ demand1 =
       zeros-chunk = zeros-chunk;
       zeros-block = zeros-block;
       zeros-report = zeros-report;
+      write-refused = unwritten;
     }
 
 demand2 : Demand2
@@ -46,6 +50,8 @@ demand2 =
       percent-never-falls = percent-never-smaller;
       block-taken = block-taken;
       block-samples = λ m b z. block-samples m b (block-taken m b .0 z);
+      written = reads-back;
+      afresh = λ b buffer a s e l. afresh b a s buffer l e;
       chunk-samples = chunk-samples;
       empty-chunk = empty-chunk;
     }

@@ -8,3 +8,4 @@ pub mod Lost
 pub mod Margins
 pub mod NoOffset
 pub mod Tied
+mod Written

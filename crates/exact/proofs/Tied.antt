@@ -16,6 +16,7 @@ use mir.Val.{SFits}
 use Rattle.level.specs.declared.Samples.{Samples}
 use Rattle.level.specs.Types.{samplesOf, thresholds, activity, twoWords}
 use Rattle.level.proofs.Words.{two-of-words}
+use Rattle.coding.specs.Typed.{AllSamples}
 use Rattle.sample.specs.declared.Counting.{Counting}
 use Rattle.sample.specs.declared.State.{State}
 use Rattle.sample.specs.Activity.{counted, hung}
@@ -29,7 +30,6 @@ use Rattle.sample.proofs.Thresholds.{thresholds-rise}
 use Rattle.signed.proofs.Sizes.{abs-sum}
 use Rattle.exact.specs.Exact.{E, startAt, distance, reaches, countNext, hangoverNext, takeOne, takeAll}
 use Rattle.rate.specs.Rates.{Ceiling}
-use Rattle.exact.specs.Calls.{AllSamples}
 use Rattle.exact.specs.Envelope.{envelopeAfter, exactEnvelopeAfter, EnvelopeBound}
 use Rattle.exact.proofs.Envelope.{Near, near-step, near-zero, near-below, fed-exact, fed-near, then-exact, then-rounded}
 

@@ -1,10 +1,9 @@
--- Calls: METHOD.md, "One sample". What a call is given beside the meter, and the samples that it brings; and what types say of samples.
+-- Calls: METHOD.md, "One sample". What a call is given beside the meter, and the samples that it brings.
 use mathlib.Core.List.{List, [], _∷_}
 use Prim.Native.Nat.{ℕ}
 use lib.IntN.{ℤ}
-use mir.Syntax.{w16}
-use mir.Val.{SFits}
 use Rattle.block.specs.Block.{samplesIn}
+use Rattle.coding.specs.Typed.{AllSamples}
 
 -- a call's arguments other than the meter
 pub data Call : Type 0 where
@@ -12,10 +11,6 @@ pub data Call : Type 0 where
   block : List ℕ → Call
 
 -- the samples of each chunk are signed 16-bit numbers, as their type says
-unfoldable pub AllSamples : List ℤ → Type 0
-AllSamples [] = Unit {0}
-AllSamples (x ∷ xs) = SFits w16 x × AllSamples xs
-
 unfoldable pub Typed : List Call → Type 0
 Typed [] = Unit {0}
 Typed (chunk xs ∷ calls) = AllSamples xs × Typed calls

@@ -11,12 +11,14 @@ use lib.ListN.{length}
 use lib.Signed.{ltZ, leZ}
 use mir.Syntax.{w16}
 use mir.Val.{SFits}
-use Rattle.level.specs.Types.{thresholds, activity, twoWords}
+use Rattle.level.specs.Types.{thresholds, mostSamples, activity, twoWords}
 use Rattle.refusal.specs.First.{Rule, NoneApplies, Given, Lowest}
 use Rattle.setting.specs.declared.Setting.{Setting}
 use Rattle.setting.specs.Settings.{iOf, dOf}
-use Rattle.block.specs.Block.{samplesIn}
-use Rattle.block.specs.Refusals.{hostRules, hostCheck}
+use Rattle.block.specs.Block.{rateCode, count, before, samplesIn}
+use Rattle.block.specs.Refusals.{sound, hostRules, hostCheck}
+use Rattle.coding.specs.Typed.{AllSamples, AllBytes}
+use Rattle.block.specs.Written.{writeRules, writeCall}
 use Rattle.sample.specs.Envelope.{threshold, workedOut}
 use Rattle.sample.specs.Sample.{freshState, stateAfter}
 use Rattle.meter.specs.declared.Meter.{Meter}
@@ -89,8 +91,8 @@ abbrev pub Numbered : List Rule → ℕ → Type 0
 Numbered rules k = Given rules k × Lowest rules k
 
 pub record Demand1 : Type 0 where
-  -- "every call ends": the check proves of every function that it returns. `Meter::open`, `Meter::chunk`, `Meter::block`, `Meter::report` and
-  -- `hoggetwhirl_check_block` have no `requires`: they return for every argument whatever
+  -- "every call ends": the check proves of every function that it returns. `Meter::open`, `Meter::chunk`, `Meter::block`, `Meter::report`,
+  -- `hoggetwhirl_check_block` and `write` of `block` have no `requires`: they return for every argument whatever
   -- "wrap a sum or spoil a running measurement"
   pub nothing-lost : (c : Setting) (calls : List Call) → TypedOffset c → Opens c → Typed calls → NothingLost c calls
   -- "whatever is wrong gets the refusal that document 01 numbers for it"
@@ -99,6 +101,7 @@ pub record Demand1 : Type 0 where
   pub block-number : (m : Meter) (b : List ℕ) → Numbered (blockCallRules m b) (blockCall m b .number)
   pub report-number : (m : Meter) → Numbered (reportRules m) (reportCall m .number)
   pub host-number : (b : List ℕ) (code : ℕ) → Numbered (hostRules b code) (hostCheck b code)
+  pub write-number : (code n : ℕ) (xs : List ℤ) (buffer : List ℕ) → Numbered (writeRules code n xs buffer) (writeCall code n xs buffer .number)
   -- "a refused call gives back the meter it was handed", and a refused report call a report of all zeros; opening was handed no meter, and gives one of
   -- all zeros, which every later call refuses with 2
   pub chunk-refused : (m : Meter) (xs : List ℤ) → 0 < chunkCall m xs .number → chunkCall m xs .meter ≡ m
@@ -110,7 +113,9 @@ pub record Demand1 : Type 0 where
   pub zeros-block : (m : Meter) → Zeros m → (b : List ℕ) → blockCall m b .number ≡ 2
   pub zeros-report : (m : Meter) → Zeros m → reportCall m .number ≡ 2
   -- "writes into nothing lent": `Meter::chunk` and `Meter::block` are lent `&[i16]` and `&[u8]`, which nothing can be written through, and
-  -- `hoggetwhirl_check_block` too
+  -- `hoggetwhirl_check_block` too. The one call that is lent a buffer to write into is `write`: as his request L6 has it, "A refusal leaves the buffer
+  -- untouched"
+  pub write-refused : (code n : ℕ) (xs : List ℤ) (buffer : List ℕ) → 0 < writeCall code n xs buffer .number → writeCall code n xs buffer .buffer ≡ buffer
 
 -- ---- demand 2: "Nothing reported may differ from method B"
 
@@ -123,6 +128,14 @@ pub record LowestCrossing (m : Meter) (j : ℕ) : Type 0 where
 pub record SameMeasurement (c c′ : Setting) (calls : List Call) : Type 0 where
   pub answers : answersTo c′ calls ≡ answersTo c calls
   pub state : meterAfter c′ calls .state ≡ meterAfter c calls .state
+
+-- a block that was made of a rate code, n samples before it and samples xs: it holds these samples, the host's check of it gives 0, and any meter of
+-- that code and that n which 2 does not refuse takes them
+pub record ReadsBack (code n : ℕ) (xs : List ℤ) (b : List ℕ) : Type 0 where
+  pub samples : samplesIn b ≡ xs
+  pub checked : hostCheck b code ≡ 0
+  pub taken : (m : Meter) → m .setting .code ≡ code → m .state .sums .n .0 ≡ n → impossible m ≡ false
+      → blockCall m b ≡ record { number = 0; meter = afterSamples m xs }
 
 pub record Demand2 : Type 0 where
   -- "sums, envelope, counts": opening gives the fresh meter, and after a list of calls the meter is the one that METHOD.md's formulas lead to over
@@ -154,6 +167,12 @@ pub record Demand2 : Type 0 where
   -- "a sample block is taken exactly when it breaks none of the rules"; taken, its samples are
   pub block-taken : (m : Meter) (b : List ℕ) → (blockCall m b .number ≡ 0) ↔ NoneApplies (blockCallRules m b)
   pub block-samples : (m : Meter) (b : List ℕ) → blockCall m b .number ≡ 0 → blockCall m b .meter ≡ afterSamples m (samplesIn b)
+  -- and, as his request L6 has it, "A written block reads back to the same samples at any meter with that code and that n which 2 does not refuse"
+  pub written : (code n : ℕ) (xs : List ℤ) (buffer : List ℕ) → AllSamples xs → writeCall code n xs buffer .number ≡ 0
+      → ReadsBack code n xs (writeCall code n xs buffer .buffer)
+  -- "and any sound block whose samples end at 2^48 or below, written afresh from its own contents, has its own bytes", into any buffer of 512 bytes
+  pub afresh : (b buffer : List ℕ) → AllBytes b → sound b ≡ true → before b + count b ≤ mostSamples → length buffer ≡ 512
+      → writeCall (rateCode b) (before b) (samplesIn b) buffer ≡ record { number = 0; buffer = b }
   -- an accepted chunk's samples are taken; an empty one is accepted where 2 does not refuse the meter, and changes nothing
   pub chunk-samples : (m : Meter) (xs : List ℤ) → chunkCall m xs .number ≡ 0 → chunkCall m xs .meter ≡ afterSamples m xs
   pub empty-chunk : (m : Meter) → impossible m ≡ false → chunkCall m [] ≡ record { number = 0; meter = m }

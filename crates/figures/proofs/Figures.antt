@@ -4,8 +4,11 @@ use Rattle.level.specs.Types.{words}
 use Rattle.level.specs.Logarithm.{placeUpTo, place, start as startOf, bit, next, spell, lev, levelOf}
 use Rattle.rate.specs.Rates.{rateOf, isNamed, rowOf}
 use Rattle.refusal.specs.First.{firstOf}
-use Rattle.block.specs.Block.{numberAt, kind, rateCode, count, before, signed, samplesAt, samplesIn, word, sumBelow, checkSum, weightedSum}
+use Rattle.coding.specs.Numbers.{numberAt, bytesOf}
+use Rattle.coding.specs.Samples.{signed, wordOf, samplesAt, bytesOfSamples}
+use Rattle.block.specs.Block.{kind, rateCode, count, before, samplesIn, word, sumBelow, checkSum, weightedSum}
 use Rattle.block.specs.Refusals.{wrongLength, wrongCheck, wrongKind, wrongRate, wrongCount, zeros, usedUnused, blockRules, sound, hostRules, hostCheck}
+use Rattle.block.specs.Written.{contentsOf, blockOf, unwritable, writeRules, writeCall}
 use Rattle.sample.specs.Activity.{counted, hung}
 use Rattle.sample.specs.Envelope.{smooth, size, rectified, threshold}
 use Rattle.sample.specs.Sample.{listFrom, freshState, summed, counts, hangovers, stateAfterOne, stateAfter}
@@ -13,19 +16,20 @@ use Rattle.crossing.specs.Levels.{longTerm, activeAt, levelOfThreshold, excess}
 use Rattle.crossing.specs.Crossing.{isCrossing, highestBelow, crossing, lowerOf, activeLevel}
 use Rattle.crossing.specs.Searched.{levelsAt, noLevels, crossingIn, firstExcess}
 use Rattle.percent.specs.Percent.{notAbove}
-use Rattle.meter.specs.Refusals.{anyOf, someBelow, unnamedCode, manySamples, largeSum, largeSquares, largeP, largeQ, impossibleSums, longHangover, largeCount, risingCount, fallingHangover, impossibleCounter, impossible, longChunk, wrongPlace, tooMany, openRules, chunkRules, blockCallRules}
+use Rattle.possible.specs.Impossible.{anyOf, someBelow, manySamples, largeSum, largeSquares, largeP, largeQ, impossibleSums, longHangover, largeCount, risingCount, fallingHangover, impossibleCounter}
+use Rattle.meter.specs.Refusals.{unnamedCode, impossible, longChunk, wrongPlace, tooMany, openRules, chunkRules, blockCallRules}
 use Rattle.meter.specs.Reports.{crossingOf, firstOfMeter, noSamples, noSignal, noActivity, levelBelow, levelAbove, reportRules, noReport, reportWith, reportAt, reportFor}
 use Rattle.setting.specs.Settings.{kOf, iOf, wrongMargin}
 use Rattle.meter.specs.Calls.{fresh, zeroMeter, countingOf, afterSamples, openCall, chunkCall, blockCall, reportCall}
 use Rattle.exact.specs.Calls.{broughtBy}
 use Rattle.exact.specs.Exact.{startAt, start, distance, reaches, countNext, hangoverNext, takeOne, takeAll, accepts, fed, exactly}
 use Rattle.exact.specs.Lists.{called, after}
-use Rattle.figures.specs.Blocks.{bytes, pairs, blockOf, soundBlock, fullBlock, endBlock, twenty, threeBytes, otherSum, highSum, otherWeighted, otherKind, otherCode, noCount, highCount, usedNext, usedLast}
+use Rattle.figures.specs.Blocks.{pairs, blockWith, soundBlock, fullBlock, endBlock, twenty, lastBlock, exampleBytes, plainBytes, threeBytes, otherSum, highSum, otherWeighted, otherKind, otherCode, noCount, highCount, usedNext, usedLast}
 use Rattle.figures.specs.Meters.{given}
 use Rattle.figures.specs.Rows.{sampledMeter, meterFrom, exactFrom, numbersOf, shownBy, valuesOf, All}
 use Rattle.figures.specs.Table.{run, faults, table}
 use Rattle.figures.proofs.Rows.{sameShown, testOf, test, allTrue, sound-table}
 
 pub figures : All table
-unfolding placeUpTo place startOf bit next spell lev levelOf rateOf isNamed rowOf firstOf numberAt kind rateCode count before signed samplesAt samplesIn word sumBelow checkSum weightedSum wrongLength wrongCheck wrongKind wrongRate wrongCount zeros usedUnused blockRules sound hostRules hostCheck counted hung smooth size rectified threshold listFrom words freshState kOf iOf fresh zeroMeter countingOf afterSamples summed counts hangovers stateAfterOne stateAfter longTerm activeAt levelOfThreshold excess isCrossing highestBelow crossing lowerOf activeLevel notAbove anyOf someBelow unnamedCode wrongMargin manySamples largeSum largeSquares largeP largeQ impossibleSums longHangover largeCount risingCount fallingHangover impossibleCounter impossible longChunk wrongPlace tooMany openRules chunkRules blockCallRules levelsAt noLevels crossingIn firstExcess crossingOf firstOfMeter noSamples noSignal noActivity levelBelow levelAbove reportRules noReport reportWith reportAt reportFor openCall chunkCall blockCall reportCall startAt start distance reaches countNext hangoverNext takeOne takeAll accepts broughtBy fed exactly called after given sampledMeter meterFrom exactFrom numbersOf shownBy valuesOf bytes pairs blockOf soundBlock fullBlock endBlock twenty threeBytes otherSum highSum otherWeighted otherKind otherCode noCount highCount usedNext usedLast run faults table sameShown testOf test allTrue
+unfolding placeUpTo place startOf bit next spell lev levelOf rateOf isNamed rowOf firstOf numberAt kind rateCode count before signed samplesAt samplesIn word sumBelow checkSum weightedSum wrongLength wrongCheck wrongKind wrongRate wrongCount zeros usedUnused blockRules sound hostRules hostCheck bytesOf wordOf bytesOfSamples contentsOf blockOf unwritable writeRules writeCall counted hung smooth size rectified threshold listFrom words freshState kOf iOf fresh zeroMeter countingOf afterSamples summed counts hangovers stateAfterOne stateAfter longTerm activeAt levelOfThreshold excess isCrossing highestBelow crossing lowerOf activeLevel notAbove anyOf someBelow unnamedCode wrongMargin manySamples largeSum largeSquares largeP largeQ impossibleSums longHangover largeCount risingCount fallingHangover impossibleCounter impossible longChunk wrongPlace tooMany openRules chunkRules blockCallRules levelsAt noLevels crossingIn firstExcess crossingOf firstOfMeter noSamples noSignal noActivity levelBelow levelAbove reportRules noReport reportWith reportAt reportFor openCall chunkCall blockCall reportCall startAt start distance reaches countNext hangoverNext takeOne takeAll accepts broughtBy fed exactly called after given sampledMeter meterFrom exactFrom numbersOf shownBy valuesOf pairs blockWith soundBlock fullBlock endBlock twenty lastBlock exampleBytes plainBytes threeBytes otherSum highSum otherWeighted otherKind otherCode noCount highCount usedNext usedLast run faults table sameShown testOf test allTrue
 figures = sound-table table refl

@@ -12,6 +12,7 @@ use lib.ListN.{length}
 use Rattle.level.specs.Logarithm.{levelOf}
 use Rattle.rate.specs.Rates.{rowOf}
 use Rattle.block.specs.Refusals.{hostCheck}
+use Rattle.block.specs.Written.{writeCall}
 use Rattle.percent.specs.Percent.{whole, notAbove, percentOf}
 use Rattle.percent.proofs.Laws.{percent-at, percent-only}
 use Rattle.sample.specs.Envelope.{threshold}
@@ -21,7 +22,7 @@ use Rattle.meter.proofs.Laws.{percent-of}
 use Rattle.exact.specs.Demands.{countAt}
 use Rattle.exact.specs.Envelope.{envelopeAfter, exactEnvelopeAfter}
 use Rattle.figures.specs.Meters.{countsOf}
-use Rattle.figures.specs.Rows.{Shown, nothing, Values, Row, level, noLevel, percent, sampled, reported, refused, opened, handedIn, answered, checked, played, counted, needsTwo, needsD, sampledMeter, meterFrom, exactFrom, numbersOf, shownBy, valuesOf, Holds, All}
+use Rattle.figures.specs.Rows.{Shown, nothing, Values, Row, level, noLevel, percent, sampled, reported, refused, opened, handedIn, answered, checked, made, played, counted, needsTwo, needsD, sampledMeter, meterFrom, exactFrom, numbersOf, shownBy, valuesOf, Holds, All}
 use Rattle.figures.proofs.Tests.{Test, via, _and_, is, isNot, unless, atMost, itself, _on_, Equality, sameNumber, sameInteger, sameAnswer, sameList, sameOption}
 
 -- the percentage of a factor, by its law: two logarithms beside lev(10000)
@@ -94,6 +95,9 @@ testOf (opened c number) = sameNumber (openCall c .number) number
 testOf (handedIn m number) = sameNumber (chunkCall m [] .number) number
 testOf (answered m calls numbers) = sameList sameNumber (numbersOf m calls) numbers
 testOf (checked bytes code number) = sameNumber (hostCheck bytes code) number
+testOf (made code before xs buffer number after) =
+    let w = writeCall code before xs buffer in
+    sameNumber (w .number) number and sameList sameNumber (w .buffer) after
 testOf (played c calls v) = sameValues (valuesOf (meterFrom c calls)) v
 testOf (counted s calls c u) = sameNumber (countAt (exactFrom s calls) c) u
 testOf (needsTwo c calls A) =

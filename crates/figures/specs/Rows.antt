@@ -9,6 +9,7 @@ use lib.ListN.{length}
 use Rattle.level.specs.Logarithm.{levelOf}
 use Rattle.rate.specs.Rates.{rowOf}
 use Rattle.block.specs.Refusals.{hostCheck}
+use Rattle.block.specs.Written.{writeCall}
 use Rattle.percent.specs.Percent.{percentOf}
 use Rattle.sample.specs.Envelope.{threshold}
 use Rattle.setting.specs.declared.Setting.{Setting}
@@ -73,6 +74,8 @@ pub data Row : Type 0 where
   answered : Meter → List Call → (numbers : List ℕ) → Row
   -- the line host hands over bytes and a code, and is answered with number
   checked : (bytes : List ℕ) (code number : ℕ) → Row
+  -- a block made of a code, a number before and samples is answered with number, and the lent buffer is then after
+  made : (code before : ℕ) (xs : List ℤ) (buffer : List ℕ) (number : ℕ) (after : List ℕ) → Row
   -- after an opening and calls the meter has these values
   played : Setting → List Call → Values → Row
   -- after an opening and calls E's count at threshold c is u
@@ -140,6 +143,9 @@ Holds (opened c number) = openCall c .number ≡ number
 Holds (handedIn m number) = chunkCall m [] .number ≡ number
 Holds (answered m calls numbers) = numbersOf m calls ≡ numbers
 Holds (checked bytes code number) = hostCheck bytes code ≡ number
+Holds (made code before xs buffer number after) =
+    let w = writeCall code before xs buffer in
+    (w .number ≡ number) × (w .buffer ≡ after)
 Holds (played c calls v) = valuesOf (meterFrom c calls) ≡ v
 Holds (counted s calls c u) = countAt (exactFrom s calls) c ≡ u
 Holds (needsTwo c calls A) =

@@ -47,7 +47,7 @@ impl Source {
     pub fn used(self, n: usize) -> Source {
         let coming = self.coming;
         Source {
-            at: self.at + block::least(n, self.unused()),
+            at: self.at + coding::least(n, self.unused()),
             end: self.end,
             read: self.read,
             coming,
@@ -83,8 +83,8 @@ impl Source {
 
 // The bytes that are read and not yet used, at most so many.
 pub fn ahead(buffer: &[u8], source: Source, n: usize) -> &[u8] {
-    let at = block::least(source.at, buffer.len());
-    let end = at + block::least(block::least(n, source.unused()), buffer.len() - at);
+    let at = coding::least(source.at, buffer.len());
+    let end = at + coding::least(coding::least(n, source.unused()), buffer.len() - at);
     &buffer[at..end]
 }
 
@@ -95,7 +95,7 @@ fn moved(buffer: &mut [u8], from: usize, n: usize) -> usize
     if buffer.len() <= from {
         return 0;
     }
-    let count = block::least(n, buffer.len() - from);
+    let count = coding::least(n, buffer.len() - from);
     let mut i = 0;
     while i < count {
         buffer[i] = buffer[from + i];

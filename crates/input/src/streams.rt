@@ -65,7 +65,7 @@ impl Streams {
         while 0 < left {
             streams = streams.ready(bytes, lines, 1);
             let source = streams.source;
-            let count = block::least(left, source.unused());
+            let count = coding::least(left, source.unused());
             if count == 0 {
                 return Passed { streams, left };
             }

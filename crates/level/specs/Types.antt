@@ -22,6 +22,10 @@ stepsOf x = record { 0 = x }
 abbrev pub thresholds : ℕ
 thresholds = 15
 
+-- the most samples that a measurement may hold
+abbrev pub mostSamples : ℕ
+mostSamples = 2 ^ 48
+
 -- a_j of a list of activity counts
 abbrev pub activity : List Samples → ℕ → ℕ
 activity a j = getD a j (samplesOf 0) .0

@@ -12,6 +12,9 @@ ghost use Rattle.level.specs.Types.{samplesOf, hundredthsOf, stepsOf, tw
 // How many thresholds there are.
 pub const THRESHOLDS: usize = 15;
 
+// The most samples that a measurement may hold.
+pub const MOST_SAMPLES: u64 = 1 << 48;
+
 // A level, or a difference of two, in steps of 1/4096 of a doubling of power.
 pub struct Steps(i64);
 

@@ -12,24 +12,25 @@ use lib.Dec.{eqb, ltb, lit≤}
 use lib.IntN.{ℤ, pos, _-ℤ_}
 use lib.Signed.{ltZ, leZ}
 use Rattle.level.specs.Logarithm.{lev, levelOf}
-use Rattle.level.specs.Types.{thresholds, activity, twoWords, words}
+use Rattle.level.specs.Types.{thresholds, mostSamples, activity, twoWords, words}
 use Rattle.level.proofs.Laws.{level-exists}
 use Rattle.rate.proofs.Laws.{zero-unnamed}
 use Rattle.refusal.specs.First.{firstOf, NoneApplies, rising, Given, Lowest}
 use Rattle.refusal.proofs.Laws.{here, past, none, given-lowest}
 use Rattle.block.specs.Block.{samplesIn}
 use Rattle.block.specs.Refusals.{blockRules}
-use Rattle.sample.specs.Sample.{mostSamples, listFrom, freshState, stateAfter}
+use Rattle.sample.specs.Sample.{listFrom, freshState, stateAfter}
 use Rattle.crossing.proofs.Bounds.{Crossed, crossed, factor}
 use Rattle.percent.specs.Percent.{IsPercent}
 use Rattle.percent.proofs.Laws.{never-smaller}
 use Rattle.setting.specs.declared.Setting.{Setting}
+use Rattle.possible.specs.Impossible.{anyOf}
 use Rattle.meter.specs.declared.Meter.{Meter}
 use Rattle.meter.specs.declared.Report.{Report}
 use Rattle.meter.specs.Answered.{powerOf, CrossingAt, Used, ReportAt, AllZero, Active, Answered, no-samples, no-signal, no-activity, level-below, level-above, levels}
 use Rattle.meter.specs.Calls.{fresh, zeroMeter, afterSamples, openCall, chunkCall, blockCall, reportCall}
 use Rattle.meter.specs.Opened.{Fresh, Zeros}
-use Rattle.meter.specs.Refusals.{unnamedCode, anyOf, impossible, longChunk, tooMany, openRules, chunkRules, blockCallRules}
+use Rattle.meter.specs.Refusals.{unnamedCode, impossible, longChunk, tooMany, openRules, chunkRules, blockCallRules}
 use Rattle.meter.specs.Reports.{marginOf, reportRules}
 use Rattle.meter.proofs.Outcome.{zero-report, answered}
 use Rattle.meter.proofs.Possible.{Possible, possible, falling}

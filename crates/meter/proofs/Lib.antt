@@ -1,4 +1,3 @@
-mod Below
 mod Blocks
 mod Finding
 mod Handing

@@ -9,13 +9,13 @@ use borrow.Author.Tests.{lt-ltb, le-ltb, ltb-false, not-false}
 use lib.Dec.{ltb}
 use lib.IntN.{natAbs}
 use lib.ListN.{getD}
-use Rattle.level.specs.Types.{thresholds, activity, twoWords}
+use Rattle.level.specs.Types.{thresholds, mostSamples, activity, twoWords}
 use Rattle.rate.specs.Rates.{isNamed}
-use Rattle.sample.specs.Sample.{mostSamples}
 use Rattle.setting.specs.Settings.{iOf, wrongMargin}
 use Rattle.meter.specs.declared.Meter.{Meter}
-use Rattle.meter.specs.Refusals.{sumBound, squareBound, envelopeBound, unnamedCode, manySamples, largeSum, largeSquares, largeP, largeQ, impossibleSums, longHangover, largeCount, risingCount, fallingHangover, impossibleCounter, impossible}
-use Rattle.meter.proofs.Below.{NoneOf, none-of, of-none, none-below, each-below}
+use Rattle.possible.specs.Impossible.{sumBound, squareBound, envelopeBound, manySamples, largeSum, largeSquares, largeP, largeQ, impossibleSums, longHangover, largeCount, risingCount, fallingHangover, impossibleCounter}
+use Rattle.meter.specs.Refusals.{unnamedCode, impossible}
+use Rattle.possible.proofs.Below.{NoneOf, none-of, of-none, none-below, each-below}
 
 pub record Possible (m : Meter) : Type 0 where
   pub named : isNamed (m .setting .code) ≡ true

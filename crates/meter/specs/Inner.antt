@@ -3,12 +3,11 @@ use mathlib.Core.Bool.{false, true, cond}
 use mathlib.Core.List.{List, [], _∷_}
 use mathlib.Core.Option.{Option, none, some}
 use mathlib.Core.Path.{_≡_}
-use Prim.Native.Nat.{ℕ, _+_, _≤_, _<_}
+use Prim.Native.Nat.{ℕ, _≤_}
 use lib.IntN.{ℤ}
 use lib.ListN.{length}
 use Rattle.block.specs.Refusals.{sound, samplesPart}
 use Rattle.crossing.specs.declared.Levels.{Levels}
-use Rattle.level.specs.Types.{thresholds}
 use Rattle.rate.specs.declared.Rate.{Rate}
 use Rattle.rate.specs.Rates.{rateOf}
 use Rattle.refusal.specs.First.{firstOf}
@@ -23,11 +22,6 @@ use Rattle.meter.specs.Reports.{noReport, reportWith}
 -- the rate of a meter that refusal 2 lets pass
 unfoldable pub usableRate : Meter → Option Rate
 usableRate m = cond (impossible m) none (rateOf (m .setting .code))
-
--- the place after j; after the last, the last
-pub record NextPlace (j r : ℕ) : Type 0 where
-  pub next : j + 1 < thresholds → r ≡ j + 1
-  pub last : thresholds ≤ j + 1 → r ≡ j
 
 -- the meter that has taken no sample, with any I
 unfoldable pub freshAt : Setting → (I : ℕ) → Meter

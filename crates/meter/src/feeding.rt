@@ -7,12 +7,12 @@ ghost use Rattle.meter.specs.Inner.{Followed, Ready, refusedWith, takenB
 use crate::Fed;
 use crate::Meter;
 use crate::usable;
+use level::MOST_SAMPLES;
 use rate::Named;
 use rate::Rate;
 use refusal::Answer;
 use refusal::Refusal;
 use sample::Counting;
-use sample::MOST_SAMPLES;
 
 // The most samples that a chunk may have.
 const LONGEST_CHUNK: usize = 4096;
@@ -65,7 +65,7 @@ fn follow(meter: Meter, rate: Rate, bytes: &[u8], part: &[u8]) -> Fed
         return refused(meter, Refusal::BlockPlace);
     }
     let mut samples = [0i16; 248];
-    block::decode(part, &mut samples);
+    coding::decode(part, &mut samples);
     let count = part.len() / 2;
     feed(meter, rate, &samples[0..count])
 }

@@ -17,6 +17,7 @@ pub use page::Page;
 pub use page::Writing;
 pub use page::filled;
 pub use text::end_of_line;
+pub use text::hexadecimal;
 pub use text::numbers;
 pub use text::signed;
 pub use text::spaced;

@@ -6,7 +6,7 @@ pub fn words(line: &mut [u8], used: usize, text: &[u8]) -> usize {
     if line.len() <= used {
         return used;
     }
-    let n = block::least(text.len(), line.len() - used);
+    let n = coding::least(text.len(), line.len() - used);
     let mut i = 0;
     while i < n {
         line[used + i] = text[i];
@@ -49,6 +49,27 @@ pub fn numbers(line: &mut [u8], used: usize, xs: &[u64; THRESHOLDS]) -> usize {
         j += 1;
     }
     end
+}
+
+// Bytes in hexadecimal, two digits each.
+pub fn hexadecimal(line: &mut [u8], used: usize, bytes: &[u8]) -> usize {
+    let mut end = used;
+    let mut i = 0;
+    while i < bytes.len() {
+        let digits = [digit(bytes[i] / 16), digit(bytes[i] % 16)];
+        end = words(line, end, &digits);
+        i += 1;
+    }
+    end
+}
+
+// A number below 16 as a digit; any other by its last digit.
+fn digit(x: u8) -> u8 {
+    let value = x % 16;
+    if value < 10 {
+        return 48 + value;
+    }
+    87 + value
 }
 
 pub fn end_of_line(line: &mut [u8], used: usize) -> usize {

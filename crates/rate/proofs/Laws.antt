@@ -1,4 +1,4 @@
--- What the crates above know of a named rate, whichever it is: `named-keeps` and `named-code`. Only this file goes through the table's rows.
+-- What the crates above know of a named rate, whichever it is: `named-keeps`, `named-code` and `named-small`. Only this file goes through the table's rows.
 use mathlib.Core.Bool.{Bool, true, false, cond}
 use mathlib.Core.Option.{Option, none, some, Option·getD}
 use mathlib.Core.Path.{_≡_, refl, sym, ap, subst, _∙_}
@@ -67,13 +67,21 @@ pub row-is : (code : ℕ) (r : Rate) → rateOf code ≡ some r → rowOf code �
 unfolding rowOf
 row-is code r e = ap (λ (o : Option Rate). Option·getD o zeroRow) e
 
-pub row-keeps : (code : ℕ) → isNamed code ≡ true → Keeps (rowOf code)
+-- what holds wherever a code names a rate
+from-rate : {P : Type 0} (code : ℕ) → ((r : Rate) → rateOf code ≡ some r → P) → isNamed code ≡ true → P
 unfolding isNamed
-row-keeps code n = go (rateOf code) refl n
+from-rate {P} code f n = go (rateOf code) refl n
   where
-    go : (o : Option Rate) → rateOf code ≡ o → isSome o ≡ true → Keeps (rowOf code)
+    go : (o : Option Rate) → rateOf code ≡ o → isSome o ≡ true → P
     go none e h = absurd (subst T (sym h) tt)
-    go (some r) e h = subst Keeps (sym (row-is code r e)) (named-keeps code r e)
+    go (some r) e h = f r e
+
+pub row-keeps : (code : ℕ) → isNamed code ≡ true → Keeps (rowOf code)
+row-keeps code n = from-rate code (λ r e. subst Keeps (sym (row-is code r e)) (named-keeps code r e)) n
+
+-- a code that names a rate fits a byte
+pub named-small : (code : ℕ) → isNamed code ≡ true → code < 256
+named-small code n = from-rate code (each-row (λ c r. c < 256) (omega arith) (omega arith) (omega arith) code) n
 
 pub zero-unnamed : isNamed 0 ≡ false
 unfolding isNamed rateOf

@@ -3,7 +3,7 @@ use Prim.Native.Nat.{ℕ}
 use Rattle.refusal.specs.declared.Refusal.{Refusal}
 use Rattle.refusal.specs.declared.Answer.{Answer}
 use Rattle.refusal.specs.declared.Answer.the-variants.{Accepted, Refused}
-use Rattle.refusal.specs.declared.Refusal.the-variants.{UnnamedRate, ImpossibleMeter, LongChunk, BlockLength, BlockCheck, BlockKind, BlockRate, BlockCount, BlockUnused, BlockPlace, TooManySamples, NoSamples, NoSignal, NoActivity, NoCrossingBelow, NoCrossingAbove, WrongMargin}
+use Rattle.refusal.specs.declared.Refusal.the-variants.{UnnamedRate, ImpossibleMeter, LongChunk, BlockLength, BlockCheck, BlockKind, BlockRate, BlockCount, BlockUnused, BlockPlace, TooManySamples, NoSamples, NoSignal, NoActivity, NoCrossingBelow, NoCrossingAbove, WrongMargin, UnwritableSamples}
 
 -- the number of each refusal
 abbrev pub numberOf : Refusal → ℕ
@@ -24,6 +24,7 @@ numberOf NoActivity = 14
 numberOf NoCrossingBelow = 15
 numberOf NoCrossingAbove = 16
 numberOf WrongMargin = 17
+numberOf UnwritableSamples = 18
 
 -- the number of each answer to a call
 abbrev pub numberGiven : Answer → ℕ

@@ -38,6 +38,8 @@ pub enum Refusal {
     NoCrossingAbove,
     // 17: opening with a margin that is out of range
     WrongMargin,
+    // 18: samples that make no block: none, more than 248, or such as would end above 2^48
+    UnwritableSamples,
 }
 
 // What a call answers.
@@ -78,5 +80,6 @@ pub fn number(why: Refusal) -> u32
         Refusal::NoCrossingBelow => 15,
         Refusal::NoCrossingAbove => 16,
         Refusal::WrongMargin => 17,
+        Refusal::UnwritableSamples => 18,
     }
 }

@@ -3,6 +3,7 @@ ghost use Rattle.replay.specs.Signed.{signed as signedOf};
 ghost use mathlib.Core.Path.{_≡_};
 ghost use Prim.Native.Nat.{_≤_};
 use crate::questions;
+use crate::records;
 use level::Samples;
 use level::Squares;
 use level::Steps;
@@ -19,13 +20,13 @@ pub struct Answer {
     pub used: usize,
 }
 
-// The answer to a record of a known kind.
+// The answer to a record of a known kind, but for one that makes a block.
 pub fn answered(record: &[u8], meter: Meter, samples: &mut [i16], line: &mut [u8]) -> Answer {
-    let code = block::one_byte(record, 1) as u32;
-    match block::one_byte(record, 0) {
+    let code = coding::one_byte(record, 1) as u32;
+    match coding::one_byte(record, 0) {
         1 => told(line, b"open", Meter::open(setting(record))),
         2 => chunk(record, meter, samples, line),
-        3 => told(line, b"block", meter.block(after(record, 3))),
+        3 => told(line, b"block", meter.block(records::after(record, 3))),
         4 => report(meter, line),
         5 => Answer {
             meter: loaded(record),
@@ -41,24 +42,16 @@ pub fn answered(record: &[u8], meter: Meter, samples: &mut [i16], line: &mut [u8
         },
         _ => Answer {
             meter,
-            used: questions::check(after(record, 4), code, line),
+            used: questions::check(records::after(record, 4), code, line),
         },
     }
 }
 
-// The bytes of a record from a place on.
-fn after(record: &[u8], at: usize) -> &[u8] {
-    if record.len() <= at {
-        return &record[0..0];
-    }
-    &record[at..]
-}
-
 // 2: a chunk.
 fn chunk(record: &[u8], meter: Meter, samples: &mut [i16], line: &mut [u8]) -> Answer {
-    let part = after(record, 3);
-    block::decode(part, samples);
-    let n = block::least(part.len() / 2, samples.len());
+    let part = records::after(record, 3);
+    coding::decode(part, samples);
+    let n = coding::least(part.len() / 2, samples.len());
     told(line, b"chunk", meter.chunk(&samples[0..n]))
 }
 
@@ -75,11 +68,11 @@ fn report(meter: Meter, line: &mut [u8]) -> Answer {
 // 1 and 5: what a meter is opened with.
 fn setting(record: &[u8]) -> Setting {
     let mut offset = [0i16; 1];
-    block::decode(after(record, 2), &mut offset);
+    coding::decode(records::after(record, 2), &mut offset);
     Setting {
-        code: block::one_byte(record, 1) as u32,
+        code: coding::one_byte(record, 1) as u32,
         offset: offset[0],
-        margin: Steps::of(signed(block::eight_bytes(record, 4))),
+        margin: Steps::of(signed(coding::eight_bytes(record, 4))),
     }
 }
 
@@ -97,14 +90,14 @@ fn loaded(record: &[u8]) -> Meter {
 
 fn sums(record: &[u8]) -> Sums {
     Sums {
-        n: Samples::of(block::eight_bytes(record, 12)),
-        s: signed(block::eight_bytes(record, 20)),
+        n: Samples::of(coding::eight_bytes(record, 12)),
+        s: signed(coding::eight_bytes(record, 20)),
         sq: Squares {
-            high: block::eight_bytes(record, 28),
-            low: block::eight_bytes(record, 36),
+            high: coding::eight_bytes(record, 28),
+            low: coding::eight_bytes(record, 36),
         },
-        p: block::eight_bytes(record, 44),
-        q: block::eight_bytes(record, 52),
+        p: coding::eight_bytes(record, 44),
+        q: coding::eight_bytes(record, 52),
     }
 }
 
@@ -125,7 +118,7 @@ fn numbers(record: &[u8], from: usize) -> [u64; THRESHOLDS]
     let mut numbers = [0u64; THRESHOLDS];
     let mut j = 0;
     while j < THRESHOLDS {
-        numbers[j] = block::eight_bytes(record, from + 8 * j);
+        numbers[j] = coding::eight_bytes(record, from + 8 * j);
         j += 1;
     }
     numbers

@@ -10,18 +10,22 @@
 //   6 show                                       prints `meter` and the 39 values
 //   7 lev      high u64, low u64                 prints `lev v`, or `lev none`
 //   8 check    code u8, length u16, bytes        prints `check r`, the C host's answer
+//   9 write    code u8, number of samples before u64, count u16, count samples i16, length u16
+//                                                prints `write r`, and the buffer in hexadecimal
 //
 // r is the refusal's number, or 0. The 39 values are the code u8, the offset i16 and then, eight bytes
 // each, the margin, n, s, sq high, sq low, P, Q, the fifteen a_j and the fifteen h_j. A report's 28 values
 // are its n, s, sq high, sq low, the fifteen a_j, L, A, C, F, the lower and upper j, T, the margin and its
-// mark, 0 or 1. The run starts with a meter of all zeros; open and load replace it. A record that is cut
-// short, or of another kind, ends the run with the line `bad record k`, where k is its number, from 1;
-// standard error says where it starts and what is wrong with it. A failure to read or to write ends the run
-// with a line on standard error alone.
+// mark, 0 or 1. Record 9 makes a block in a buffer that is as long as its last field says and holds bytes of
+// 165 before; where it has a byte, all of it is shown, after a space. The run starts with a meter of all
+// zeros; open and load replace it. A record that is cut short, or of another kind, ends the run with the line
+// `bad record k`, where k is its number, from 1; standard error says where it starts and what is wrong with
+// it. A failure to read or to write ends the run with a line on standard error alone.
 mod calls;
 mod faults;
 mod questions;
 mod records;
+mod writing;
 
 use calls::Answer;
 use input::Streams;
@@ -52,7 +56,7 @@ fn main() {
     }
     let mut bytes = [0u8; 32768];
     let mut samples = [0i16; 4097];
-    let mut line = [0u8; 1024];
+    let mut line = [0u8; 2048];
     let mut lines = [0u8; 4096];
     played(&mut bytes, &mut samples, &mut line, &mut lines);
 }
@@ -100,22 +104,33 @@ fn answered(
     line: &mut [u8],
     lines: &mut [u8],
 ) -> Run {
+    let source = streams.source;
     let going = records::judged(bytes, streams);
     match going {
-        Going::On => {
-            let answer = calls::answered(records::ahead(bytes, streams), meter, samples, line);
-            passed(answer, streams, bytes, line, lines)
-        }
-        Going::Ended | Going::Unknown(_) | Going::Cut => {
-            let source = streams.source;
-            Run {
-                meter,
-                streams,
-                place: source.place(),
-                going,
-            }
-        }
+        Going::On => whole(meter, streams, bytes, samples, line, lines),
+        Going::Ended | Going::Unknown(_) | Going::Cut => Run {
+            meter,
+            streams,
+            place: source.place(),
+            going,
+        },
     }
+}
+
+// Plays the record ahead, of a known kind and read as far as it is kept.
+fn whole(
+    meter: Meter,
+    streams: Streams,
+    bytes: &mut [u8],
+    samples: &mut [i16],
+    line: &mut [u8],
+    lines: &mut [u8],
+) -> Run {
+    if records::is_write(records::ahead(bytes, streams)) {
+        return writing::played(meter, streams, bytes, samples, line, lines);
+    }
+    let answer = calls::answered(records::ahead(bytes, streams), meter, samples, line);
+    passed(answer, streams, bytes, line, lines)
 }
 
 // Reads through the rest of the record that is answered, and puts its line on the page where all of the
@@ -129,9 +144,7 @@ fn passed(
 ) -> Run {
     let meter = answer.meter;
     let source = streams.source;
-    let kept = records::ahead(bytes, streams).len();
-    let rest = records::rest(records::ahead(bytes, streams));
-    let passed = streams.used(kept).passed(bytes, lines, rest);
+    let passed = records::passed(streams, bytes, lines);
     let begun = passed.streams;
     if 0 < passed.left {
         return Run {

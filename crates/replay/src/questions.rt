@@ -4,8 +4,8 @@ use level::Squares;
 
 // 7: the level of a number of two words.
 pub fn lev(record: &[u8], line: &mut [u8]) -> usize {
-    let high = block::eight_bytes(record, 1);
-    let low = block::eight_bytes(record, 9);
+    let high = coding::eight_bytes(record, 1);
+    let low = coding::eight_bytes(record, 9);
     let used = print::words(line, 0, b"lev");
     match (Squares { high, low }).level() {
         Level::At(steps) => {

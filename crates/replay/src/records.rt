@@ -1,5 +1,6 @@
 // Records as bytes: how long they are, and how much of one is kept.
 use crate::Going;
+use input::Passed;
 use input::Streams;
 
 // The streams once the next record is read as far as it is kept, or no more comes.
@@ -17,13 +18,13 @@ fn begun(streams: Streams, bytes: &mut [u8], lines: &mut [u8]) -> Streams {
 // How many bytes of the record ahead say how long it is.
 fn head_ahead(bytes: &[u8], streams: Streams) -> usize {
     let source = streams.source;
-    head(block::one_byte(input::ahead(bytes, source, 1), 0))
+    head(coding::one_byte(input::ahead(bytes, source, 1), 0))
 }
 
 // How many bytes of the record ahead are kept.
 fn kept_ahead(bytes: &[u8], streams: Streams) -> usize {
     let source = streams.source;
-    kept(input::ahead(bytes, source, 4))
+    kept(input::ahead(bytes, source, 12))
 }
 
 // The record ahead, as far as it is read and kept.
@@ -41,17 +42,19 @@ fn head(kind: u8) -> usize {
         5 => 300,
         7 => 17,
         8 => 4,
+        9 => 12,
         _ => 0,
     }
 }
 
-// How long a record is, by its first bytes.
+// How long a record is, by its first bytes; one that writes a block, but for its last field.
 fn length(record: &[u8]) -> usize {
-    let kind = block::one_byte(record, 0);
+    let kind = coding::one_byte(record, 0);
     match kind {
-        2 => 3 + 2 * block::two_bytes(record, 1) as usize,
-        3 => 3 + block::two_bytes(record, 1) as usize,
-        8 => 4 + block::two_bytes(record, 2) as usize,
+        2 => 3 + 2 * coding::two_bytes(record, 1) as usize,
+        3 => 3 + coding::two_bytes(record, 1) as usize,
+        8 => 4 + coding::two_bytes(record, 2) as usize,
+        9 => 12 + 2 * coding::two_bytes(record, 10) as usize,
         _ => head(kind),
     }
 }
@@ -59,21 +62,43 @@ fn length(record: &[u8]) -> usize {
 // How many of a record's bytes are kept to play it. Of a chunk longer than a call can take these are the
 // first 4097 samples, and of such a block the first 513 bytes: a meter that refusal 2 lets through
 // refuses every longer chunk with 3 and every longer block with 4, and the host's check gives 1 by the
-// code alone or else 4. So the answer depends on the meter, the code and these bytes alone.
+// code alone or else 4. Of the samples to make a block of, the first 249 are kept: no call makes a
+// block of more. So the answer depends on the meter, the code and these bytes alone.
 fn kept(record: &[u8]) -> usize {
     let whole = length(record);
-    match block::one_byte(record, 0) {
-        2 => block::least(whole, 8197),
-        3 => block::least(whole, 516),
-        8 => block::least(whole, 517),
+    match coding::one_byte(record, 0) {
+        2 => coding::least(whole, 8197),
+        3 => coding::least(whole, 516),
+        8 => coding::least(whole, 517),
+        9 => coding::least(whole, 510),
         _ => whole,
     }
 }
 
+// Whether a record makes a block.
+pub fn is_write(record: &[u8]) -> bool {
+    coding::one_byte(record, 0) == 9
+}
+
+// The bytes of a record from a place on.
+pub fn after(record: &[u8], at: usize) -> &[u8] {
+    if record.len() <= at {
+        return &record[0..0];
+    }
+    &record[at..]
+}
+
+// Reads through the record ahead, those of its bytes that are not kept among them.
+pub fn passed(streams: Streams, bytes: &mut [u8], lines: &mut [u8]) -> Passed {
+    let kept = ahead(bytes, streams).len();
+    let rest = rest(ahead(bytes, streams));
+    streams.used(kept).passed(bytes, lines, rest)
+}
+
 // How many bytes come after those that are kept.
-pub fn rest(record: &[u8]) -> usize {
+fn rest(record: &[u8]) -> usize {
     let whole = length(record);
-    whole - block::least(whole, kept(record))
+    whole - coding::least(whole, kept(record))
 }
 
 // Whether the record ahead can be played.
@@ -89,7 +114,7 @@ pub fn judged(bytes: &[u8], streams: Streams) -> Going {
     }
     let kept = kept_ahead(bytes, streams);
     if kept == 0 {
-        return Going::Unknown(block::one_byte(input::ahead(bytes, source, 1), 0));
+        return Going::Unknown(coding::one_byte(input::ahead(bytes, source, 1), 0));
     }
     if n < kept {
         return Going::Cut;

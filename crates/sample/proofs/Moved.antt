@@ -7,7 +7,7 @@ use lib.IntN.{ℤ}
 use mir.Syntax.{w16}
 use mir.Val.{SFits}
 use Rattle.level.specs.declared.Squares.{Squares}
-use Rattle.level.specs.Types.{samplesOf, twoWords, words}
+use Rattle.level.specs.Types.{samplesOf, twoWords, words, mostSamples}
 use Rattle.level.proofs.Words.{two-of-words, words-of-two}
 use Rattle.signed.proofs.Sizes.{abs-sum}
 use Rattle.sample.specs.declared.Counting.{Counting}
@@ -15,7 +15,7 @@ use Rattle.sample.specs.declared.Sums.{Sums}
 use Rattle.sample.specs.declared.step.Moving.{Moving}
 use Rattle.sample.specs.Envelope.{smoothing, size, rectified}
 use Rattle.sample.specs.Inner.Steps.{begun, moved, ended, Room}
-use Rattle.sample.specs.Sample.{mostSamples, summed}
+use Rattle.sample.specs.Sample.{summed}
 use Rattle.sample.specs.StateAfter.{BoundedSums}
 use Rattle.sample.proofs.Envelope.{smooth-le}
 use Rattle.sample.proofs.Signs.{small, size-small}

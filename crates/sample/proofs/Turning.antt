@@ -11,13 +11,13 @@ use lib.IntN.{ℤ, pos}
 use lib.ListN.{length, getD, drop}
 use mir.Syntax.{w16}
 use mir.Val.{SFits}
-use Rattle.level.specs.Types.{thresholds}
+use Rattle.level.specs.Types.{thresholds, mostSamples}
 use Rattle.sample.specs.declared.Counting.{Counting}
 use Rattle.sample.specs.declared.Sums.{Sums}
 use Rattle.sample.specs.declared.band.Band.{Band}
 use Rattle.sample.specs.declared.step.Moving.{Moving}
 use Rattle.sample.specs.Envelope.{threshold, workedOut}
-use Rattle.sample.specs.Sample.{mostSamples, each, summed, stateAfter}
+use Rattle.sample.specs.Sample.{each, summed, stateAfter}
 use Rattle.sample.specs.Inner.Bands.{Clear, IsBand, Around}
 use Rattle.sample.specs.Inner.Steps.{begun, moved, ended, Room}
 use Rattle.sample.specs.Inner.Runs.{countOver, hangoverOver, countsBy, hangoversBy, Standing, Settled, between, stateOf, led, ledBy, Ran}

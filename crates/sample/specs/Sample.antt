@@ -12,10 +12,6 @@ use Rattle.sample.specs.declared.State.{State}
 use Rattle.sample.specs.Activity.{counted, hung}
 use Rattle.sample.specs.Envelope.{smooth, size, rectified, threshold}
 
--- the most samples that a measurement may hold
-abbrev pub mostSamples : ℕ
-mostSamples = 2 ^ 48
-
 -- f(j), f(j + 1), .., k of them
 unfoldable pub listFrom : {A : Type 0} → (ℕ → A) → (j k : ℕ) → List A
 listFrom f j zero = []

@@ -2,12 +2,11 @@
 use Prim.Native.Nat.{ℕ, _+_, _*_, _^_, _≤_, _<_}
 use lib.IntN.{natAbs}
 use lib.ListN.{getD}
-use Rattle.level.specs.Types.{thresholds, activity, twoWords}
+use Rattle.level.specs.Types.{thresholds, mostSamples, activity, twoWords}
 use Rattle.sample.specs.declared.Counting.{Counting}
 use Rattle.sample.specs.declared.Sums.{Sums}
 use Rattle.sample.specs.declared.State.{State}
 use Rattle.sample.specs.Envelope.{smoothing}
-use Rattle.sample.specs.Sample.{mostSamples}
 
 -- sums within their bounds
 pub record BoundedSums (m : Sums) : Type 0 where

@@ -21,9 +21,6 @@ use level::Samples;
 use level::Squares;
 use level::THRESHOLDS;
 
-// The most samples that a measurement may hold.
-pub const MOST_SAMPLES: u64 = 1 << 48;
-
 // What counting goes by: the rate's K and I, and the offset.
 pub struct Counting {
     pub k: u64,

@@ -1,12 +1,12 @@
 // The customer's worked figures, run: the answers to calls, and the four reports at P.56's margin.
 ghost use mathlib.Core.Path.{_≡_};
 ghost use lib.ListN.{length};
+use level::MOST_SAMPLES;
 use level::Samples;
 use level::Squares;
 use level::THRESHOLDS;
 use libc::STDOUT_FILENO;
 use meter::Meter;
-use sample::MOST_SAMPLES;
 use sample::State;
 use sample::Sums;
 use setting::Setting;

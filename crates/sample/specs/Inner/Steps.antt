@@ -2,12 +2,11 @@
 use mathlib.Core.Path.{_≡_}
 use Prim.Native.Nat.{ℕ, _+_, _-_, _*_, _^_, _≤_, _<_}
 use lib.IntN.{ℤ, natAbs, _+ℤ_}
-use Rattle.level.specs.Types.{samplesOf, twoWords, words}
+use Rattle.level.specs.Types.{samplesOf, twoWords, words, mostSamples}
 use Rattle.sample.specs.declared.Counting.{Counting}
 use Rattle.sample.specs.declared.Sums.{Sums}
 use Rattle.sample.specs.declared.step.Moving.{Moving}
 use Rattle.sample.specs.Envelope.{smoothing, smooth, size, rectified}
-use Rattle.sample.specs.Sample.{mostSamples}
 
 -- what moves, before the first of new samples
 abbrev pub begun : Sums → Moving

@@ -1,6 +1,6 @@
 -- A two-byte number is its two bytes.
 use native.Mathlib.Omega.{arith}
-use Rattle.block.proofs.Numbers.{two-bytes}
+use Rattle.coding.proofs.Numbers.{two-bytes}
 use borrow.Author.Needs.{needs}
 use Rattle.block.proofs.fields.word.Statement.{statement}
 use Rattle.block.proofs.fields.word.Tie as tie

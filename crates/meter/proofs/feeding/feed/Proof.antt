@@ -9,7 +9,7 @@ use lib.ListN.{length, getD}
 use mir.Syntax.{w16}
 use mir.Val.{toZ, ofZ}
 use mir.Facts.{toZ-ofZ}
-use Rattle.level.specs.Types.{thresholds}
+use Rattle.level.specs.Types.{thresholds, mostSamples}
 use Rattle.meter.proofs.Handing.{refusal, acceptance}
 use Rattle.meter.proofs.Possible.{Possible, possible}
 use Rattle.meter.specs.Calls.{handedBy, countingOf, afterSamples}
@@ -21,7 +21,7 @@ use Rattle.rate.proofs.Laws.{row-keeps}
 use Rattle.refusal.proofs.Laws.{here, past, none}
 use Rattle.sample.specs.declared.Counting.{Counting}
 use Rattle.sample.specs.Envelope.{smoothing}
-use Rattle.sample.specs.Sample.{mostSamples, stateAfter}
+use Rattle.sample.specs.Sample.{stateAfter}
 use Rattle.sample.specs.declared.State.{State}
 use Rattle.sample.specs.StateAfter.{BoundedSums, Within}
 use Rattle.meter.proofs.feeding.feed.Statement.{statement}

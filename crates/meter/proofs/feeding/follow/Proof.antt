@@ -7,9 +7,11 @@ use mathlib.Core.Path.{_≡_, sym, ap, _∙_}
 use Prim.Native.Nat.{ℕ, _*_, _/_, _-_, _≤_}
 use native.Mathlib.Omega.{arith}
 use lib.ListN.{length, take}
-use Rattle.block.specs.Block.{rateCode, count, samplesIn, samplesAt}
+use Rattle.coding.specs.Samples.{samplesAt}
+use Rattle.coding.proofs.Laws.{decoded-length, decoded-first}
+use Rattle.block.specs.Block.{rateCode, count, samplesIn}
 use Rattle.block.specs.Refusals.{wrongRate}
-use Rattle.block.proofs.Laws.{sound-count, part-length, part-reads, samples-length, decoded-length, decoded-first}
+use Rattle.block.proofs.Laws.{sound-count, part-length, part-reads, samples-length}
 use Rattle.rate.proofs.Laws.{named-code}
 use Rattle.meter.specs.Inner.{takenBy}
 use Rattle.meter.specs.Refusals.{wrongPlace}

@@ -11,8 +11,9 @@ use Rattle.rate.proofs.Laws.{named-as, named-nothing, is-named, is-not-named, r
 use Rattle.setting.specs.Settings.{iOf, wrongMargin}
 use Rattle.meter.specs.declared.Meter.{Meter}
 use Rattle.meter.specs.Inner.{usableRate}
-use Rattle.meter.specs.Refusals.{anyOf, someBelow, unnamedCode, impossibleSums, impossibleCounter, impossible}
-use Rattle.meter.proofs.Below.{stop, go-on, at-last}
+use Rattle.meter.specs.Refusals.{unnamedCode, impossible}
+use Rattle.possible.specs.Impossible.{anyOf, someBelow, impossibleSums, impossibleCounter}
+use Rattle.possible.proofs.Below.{stop, go-on, at-last}
 use Rattle.meter.proofs.usable.rate.Statement.{statement}
 use Rattle.meter.proofs.usable.rate.Tie as tie
 

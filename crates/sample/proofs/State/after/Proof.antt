@@ -11,12 +11,12 @@ use lib.ListN.{length, getD}
 use mir.Syntax.{w16}
 use mir.Val.{SFits}
 use mir.Facts.{toZ-ofZ}
-use Rattle.level.specs.Types.{samplesOf, thresholds}
+use Rattle.level.specs.Types.{samplesOf, thresholds, mostSamples}
 use Rattle.level.specs.declared.Samples.{Samples}
 use Rattle.sample.specs.declared.Counting.{Counting}
 use Rattle.sample.specs.declared.State.{State}
 use Rattle.sample.specs.declared.Sums.{Sums}
-use Rattle.sample.specs.Sample.{mostSamples, listFrom, stateAfter}
+use Rattle.sample.specs.Sample.{listFrom, stateAfter}
 use Rattle.sample.specs.Inner.Steps.{begun, moved, Room}
 use Rattle.sample.specs.Inner.Runs.{Settled, numbersOf, stateOf}
 use Rattle.sample.proofs.Bands.{below-max}

@@ -1,0 +1,5 @@
+pub mod Bytes
+mod Decoding
+pub mod Laws
+pub mod Numbers
+pub mod Parts
