@@ -1,5 +1,6 @@
 //! Sample blocks.
 
+use crate::meter::MOST_SAMPLES;
 use crate::rate::rate;
 
 /// The length of a block in bytes (the customer's scope, "Sample blocks").
@@ -156,6 +157,35 @@ pub fn make(code: u8, before: u64, samples: &[i16]) -> Vec<u8> {
     }
     seal(&mut bytes);
     bytes
+}
+
+/// Refusal 18: 0 samples, more than 248, or an end above 2^48 (the customer's request L6).
+fn refusal_18(before: u64, count: usize) -> bool {
+    let end = u128::from(before) + count as u128;
+    count < 1 || count > MOST || end > u128::from(MOST_SAMPLES)
+}
+
+/// The first of 1, 4 and 18 that applies to a write, else 0 (the customer's request L6).
+fn write_refusal(code: u8, before: u64, samples: &[i16], buffer: &[u8]) -> u32 {
+    if rate(u32::from(code)).is_none() {
+        1
+    } else if refusal_4(buffer) {
+        4
+    } else if refusal_18(before, samples.len()) {
+        18
+    } else {
+        0
+    }
+}
+
+/// Fills a lent buffer with a block: 0, or the refusal, which leaves the buffer untouched (the
+/// customer's request L6).
+pub fn write(code: u8, before: u64, samples: &[i16], buffer: &mut [u8]) -> u32 {
+    let r = write_refusal(code, before, samples, buffer);
+    if r == 0 {
+        buffer.copy_from_slice(&make(code, before, samples));
+    }
+    r
 }
 
 /// Sound blocks of all the samples in order, full but for the last (the customer's scope, "Sample blocks").

@@ -74,7 +74,10 @@ impl Comparison {
 /// Where no opening was accepted, the meter is of all zeros, and every call on it is refused (the
 /// customer's scope, "Why a call is refused").
 fn unopened(tally: &mut Tally, name: &str, record: &Record, line: &str) {
-    let of_a_list = !matches!(record, Record::Load(_) | Record::Lev(_) | Record::Check(..));
+    let of_a_list = matches!(
+        record,
+        Record::Chunk(_) | Record::Block(_) | Record::Report | Record::Show
+    );
     tally.holds(&format!("{name} {OF_A_LIST}"), of_a_list);
     let right = line == Player::new().answer(record);
     tally.holds(&format!("{name} the answer of all zeros"), right);

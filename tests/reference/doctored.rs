@@ -1,8 +1,10 @@
 //! Wrong answers to lists of calls and on meters handed in, to see that the check of demand 3
-//! refuses each of them.
+//! refuses each of them; and wrong answers to writes, for that of the customer's request L6.
 
 mod margins;
 mod offsets;
+mod read_back;
+mod writes;
 
 use crate::answer;
 use crate::compare::agrees;
@@ -55,9 +57,7 @@ impl List {
     /// Checks that with these lines these clauses of demand 3 fail, and no other.
     fn fails(&self, tally: &mut Tally, name: &str, lines: &str, clauses: &[&str]) {
         let agreed = agrees(&self.script, lines).expect("no record is bad");
-        let names = agreed.failed().iter();
-        let broken: Vec<&str> = names.filter_map(|name| name.rsplit(": ").next()).collect();
-        tally.equal(name, &broken[..], clauses);
+        tally.equal(name, &broken(&agreed)[..], clauses);
     }
 
     /// The same, with this line for the report.
@@ -79,6 +79,12 @@ impl List {
         let lines = format!("{}{shown}\n{reported}\n", self.lines);
         self.fails(tally, name, &lines, clauses);
     }
+}
+
+/// The clauses of the checks that failed, without what they are about.
+fn broken(checks: &Tally) -> Vec<&str> {
+    let names = checks.failed().iter();
+    names.filter_map(|name| name.rsplit(": ").next()).collect()
 }
 
 /// Steady hum that ends in a shout: crossings at 2 and at 4.
@@ -108,6 +114,8 @@ pub fn doctored(tally: &mut Tally) {
     totals(tally);
     offsets::offsets(tally);
     margins::margins(tally);
+    writes::writes(tally);
+    read_back::read_back(tally);
 }
 
 /// A list for each answer, on which any other breaks two clauses: the right one's and its own.

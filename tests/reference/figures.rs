@@ -1,9 +1,11 @@
-//! The worked figures, and a few further ones; wrong answers that the check of demand 3 refuses.
+//! The worked figures, and a few further ones; wrong answers that the check of demand 3 and that of
+//! the customer's request L6 refuse.
 
 mod crossings;
 mod highest;
 mod margins;
 mod offsets;
+mod writes;
 
 use crate::block;
 use crate::doctored::doctored;
@@ -33,6 +35,7 @@ pub fn figures() -> bool {
     crossings::crossings(&mut tally);
     highest::highest(&mut tally);
     margins::margins(&mut tally);
+    writes::writes(&mut tally);
     doctored(&mut tally);
     tally.finish()
 }

@@ -12,6 +12,7 @@ mod script;
 pub mod settings;
 pub mod signals;
 mod thresholds;
+mod writes;
 
 use crate::records::{write_bytes, Record};
 use random::Random;
@@ -28,6 +29,7 @@ pub fn generate(kind: &str, seed: u64, count: u64) -> Option<Vec<u8>> {
         "lev" => Some(lev(seed, count)),
         "host" => Some(host(seed, count)),
         "check" => Some(check(seed, count)),
+        "write" => Some(writes::writes(seed, count)),
         "calls" => Some(calls::calls(seed, count)),
         "lists" => Some(lists::list(seed, count)),
         "recording" => Some(recording::recording(seed, count)),

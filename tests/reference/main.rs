@@ -31,6 +31,7 @@ mod report;
 mod setting;
 mod speech;
 mod tally;
+mod written;
 
 use speech::{hum, vehicle};
 use std::io::{self, Read, Write};
@@ -72,7 +73,7 @@ fn generate(kind: &str, seed: &str, count: &str) -> io::Result<bool> {
     };
     match generate::generate(kind, seed, count) {
         Some(bytes) => output(&bytes),
-        None => error("KIND is lev, host, check, calls, lists or recording"),
+        None => error("KIND is lev, host, check, write, calls, lists or recording"),
     }
 }
 
@@ -82,6 +83,16 @@ fn counted(tally: Option<tally::Tally>) -> io::Result<bool> {
         Some(tally) => Ok(tally.finish()),
         None => error(BAD_RECORD),
     }
+}
+
+/// Prints what a check counted for a script and the lines that another program printed for it.
+fn held(
+    check: fn(&[u8], &str) -> Option<tally::Tally>,
+    script: &str,
+    printed: &str,
+) -> io::Result<bool> {
+    let script = std::fs::read(script)?;
+    counted(check(&script, &std::fs::read_to_string(printed)?))
 }
 
 /// The rate of a code that names one.
@@ -166,10 +177,8 @@ fn run(arguments: &[&str]) -> io::Result<bool> {
         ["crossed"] => lines(crossed::crossed(&input()?), BAD_RECORD),
         ["chosen"] => lines(chosen::chosen(&input()?), BAD_RECORD),
         ["margins"] => lines(margins::margins(&input()?), BAD_RECORD),
-        ["agrees", script, printed] => {
-            let script = std::fs::read(script)?;
-            counted(compare::agrees(&script, &std::fs::read_to_string(printed)?))
-        }
+        ["agrees", script, printed] => held(compare::agrees, script, printed),
+        ["written", script, printed] => held(written::written, script, printed),
         ["clause11", "script"] => output(&clause11::script()),
         ["clause11", "check", printed] => {
             Ok(clause11::check(&std::fs::read_to_string(printed)?).finish())
@@ -178,7 +187,7 @@ fn run(arguments: &[&str]) -> io::Result<bool> {
         _ => error(
             "replay | report | host | generate KIND SEED COUNT | blocks CODE | figures | exact | \
              counts | samples | largest | crossed | chosen | margins | agrees SCRIPT OUTPUT | \
-             clause11 script | clause11 check OUTPUT | speech ...",
+             written SCRIPT OUTPUT | clause11 script | clause11 check OUTPUT | speech ...",
         ),
     }
 }

@@ -1,6 +1,7 @@
 //! The lines that a replay program prints, read back.
 
 use crate::meter::{Meter, Report};
+use crate::replay::write_line;
 use crate::setting::Setting;
 
 /// The numbers after a line's first word, where that word is the one wanted.
@@ -75,4 +76,20 @@ pub fn meter(line: &str) -> Option<Meter> {
         a: fifteen(&values[9..24])?,
         h: fifteen(&values[24..])?,
     })
+}
+
+/// The number of a write's line and the buffer's bytes; None for any other form than that of the
+/// line, in lower case and with no space at its end.
+pub fn write(line: &str) -> Option<(u32, Vec<u8>)> {
+    let rest = line.strip_prefix("write ")?;
+    let (r, digits) = rest.split_once(' ').unwrap_or((rest, ""));
+    let r = r.parse().ok()?;
+    let bytes: Option<Vec<u8>> = digits.as_bytes().chunks(2).map(byte).collect();
+    let buffer = bytes?;
+    (write_line(r, &buffer) == line).then_some((r, buffer))
+}
+
+/// A byte in hexadecimal.
+fn byte(digits: &[u8]) -> Option<u8> {
+    u8::from_str_radix(std::str::from_utf8(digits).ok()?, 16).ok()
 }

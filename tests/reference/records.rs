@@ -2,6 +2,7 @@
 
 use crate::meter::Meter;
 use crate::setting::Setting;
+use std::fmt;
 
 /// One record.
 pub enum Record {
@@ -13,6 +14,40 @@ pub enum Record {
     Show,
     Lev(u128),
     Check(u8, Vec<u8>),
+    Write(Writing),
+}
+
+/// What a block is written from, and the length of the buffer that is lent for it.
+#[derive(Clone)]
+pub struct Writing {
+    pub code: u8,
+    pub before: u64,
+    pub samples: Vec<i16>,
+    pub length: u16,
+}
+
+impl Writing {
+    /// A code, a number before, samples and a length.
+    pub fn new(code: u8, before: u64, samples: &[i16], length: u16) -> Writing {
+        Writing {
+            code,
+            before,
+            samples: samples.to_vec(),
+            length,
+        }
+    }
+}
+
+impl fmt::Display for Writing {
+    /// In words, with the number of samples for the samples.
+    fn fmt(&self, out: &mut fmt::Formatter) -> fmt::Result {
+        let (code, before) = (self.code, self.before);
+        let (count, length) = (self.samples.len(), self.length);
+        write!(
+            out,
+            "code {code}, {before} before, {count} samples, {length} bytes"
+        )
+    }
 }
 
 /// Bytes read from the front; each reading is None where they are cut short.
@@ -113,6 +148,16 @@ impl<'a> Reader<'a> {
         })
     }
 
+    /// What a block is written from, and the length of the buffer.
+    fn writing(&mut self) -> Option<Writing> {
+        Some(Writing {
+            code: self.number(1)? as u8,
+            before: self.number(8)?,
+            samples: self.chunk()?,
+            length: self.number(2)? as u16,
+        })
+    }
+
     /// One record; None also where the first byte is unknown.
     fn record(&mut self) -> Option<Record> {
         match self.number(1)? {
@@ -124,6 +169,7 @@ impl<'a> Reader<'a> {
             6 => Some(Record::Show),
             7 => Some(Record::Lev(self.two_words()?)),
             8 => Some(Record::Check(self.number(1)? as u8, self.bytes()?)),
+            9 => Some(Record::Write(self.writing()?)),
             _ => None,
         }
     }
@@ -165,6 +211,12 @@ pub fn write_samples(samples: &[i16], out: &mut Vec<u8>) {
     out.extend(samples.iter().flat_map(|x| x.to_le_bytes()));
 }
 
+/// Writes a count of two bytes and the samples.
+fn write_chunk(samples: &[i16], out: &mut Vec<u8>) {
+    out.extend((samples.len() as u16).to_le_bytes());
+    write_samples(samples, out);
+}
+
 /// Writes a number of two words, the high one first.
 fn write_words(number: u128, out: &mut Vec<u8>) {
     let (high, low) = words(number);
@@ -190,6 +242,14 @@ fn write_meter(meter: &Meter, out: &mut Vec<u8>) {
     }
 }
 
+/// Writes what a block is written from, and the length of the buffer.
+fn write_writing(writing: &Writing, out: &mut Vec<u8>) {
+    out.push(writing.code);
+    out.extend(writing.before.to_le_bytes());
+    write_chunk(&writing.samples, out);
+    out.extend(writing.length.to_le_bytes());
+}
+
 impl Record {
     /// Writes the record.
     pub fn write(&self, out: &mut Vec<u8>) {
@@ -200,8 +260,7 @@ impl Record {
             }
             Record::Chunk(samples) => {
                 out.push(2);
-                out.extend((samples.len() as u16).to_le_bytes());
-                write_samples(samples, out);
+                write_chunk(samples, out);
             }
             Record::Block(bytes) => {
                 out.push(3);
@@ -221,6 +280,19 @@ impl Record {
                 out.extend([8, *code]);
                 write_bytes(bytes, out);
             }
+            Record::Write(writing) => {
+                out.push(9);
+                write_writing(writing, out);
+            }
         }
     }
+}
+
+/// The bytes of a script of these records.
+pub fn script(records: &[Record]) -> Vec<u8> {
+    let mut bytes = Vec::new();
+    for record in records {
+        record.write(&mut bytes);
+    }
+    bytes
 }

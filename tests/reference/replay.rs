@@ -3,8 +3,11 @@
 use crate::block;
 use crate::level::lev;
 use crate::meter::{Meter, Report};
-use crate::records::{read, words, Record};
+use crate::records::{read, words, Record, Writing};
 use crate::setting::Setting;
+
+/// The byte of which a lent buffer is full before a block is written into it.
+pub const FILL: u8 = 165;
 
 /// The meter that the records act on.
 pub struct Player {
@@ -36,6 +39,10 @@ impl Player {
                 None => "lev none".to_string(),
             },
             Record::Check(code, bytes) => format!("check {}", block::host(u32::from(*code), bytes)),
+            Record::Write(writing) => {
+                let (r, buffer) = writing.answer();
+                write_line(r, &buffer)
+            }
         }
     }
 
@@ -44,6 +51,27 @@ impl Player {
         self.meter = meter;
         r
     }
+}
+
+impl Writing {
+    /// The answer to the write, and what it leaves in the buffer (the customer's request L6).
+    pub fn answer(&self) -> (u32, Vec<u8>) {
+        let mut buffer = vec![FILL; usize::from(self.length)];
+        let r = block::write(self.code, self.before, &self.samples, &mut buffer);
+        (r, buffer)
+    }
+}
+
+/// The line of a write: its answer and, where the buffer has bytes, these in hexadecimal.
+pub fn write_line(r: u32, buffer: &[u8]) -> String {
+    let mut line = format!("write {r}");
+    if !buffer.is_empty() {
+        line += " ";
+    }
+    for byte in buffer {
+        line += &format!("{byte:02x}");
+    }
+    line
 }
 
 /// The line of a report, with all that it holds, or of its refusal.

@@ -2,18 +2,9 @@
 
 use crate::crossed::crossed;
 use crate::meter::Meter;
-use crate::records::Record;
+use crate::records::{script, Record};
 use crate::setting::Setting;
 use crate::tally::Tally;
-
-/// A script of these records.
-pub fn script(records: &[Record]) -> Vec<u8> {
-    let mut bytes = Vec::new();
-    for record in records {
-        record.write(&mut bytes);
-    }
-    bytes
-}
 
 /// What is told of samples given to a meter that is handed in.
 fn told(meter: Meter, samples: &[i16]) -> Option<String> {

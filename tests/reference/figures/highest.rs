@@ -1,11 +1,10 @@
 //! Meters with several crossings, of which the highest is used (the customer's request L4), and
 //! what `chosen` tells of them.
 
-use super::crossings::script;
 use super::{handed_in, report_with};
 use crate::chosen::chosen;
 use crate::meter::Meter;
-use crate::records::Record;
+use crate::records::{script, Record};
 use crate::setting::Setting;
 use crate::tally::Tally;
 

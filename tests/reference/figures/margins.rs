@@ -1,6 +1,5 @@
 //! The figures of a chosen margin (the customer's request L5), and what `margins` tells of scripts.
 
-use super::crossings::script;
 use super::highest::with_three;
 use super::{handed_in, report_with};
 use crate::block;
@@ -10,7 +9,7 @@ use crate::margins::margins as told;
 use crate::measurement::STEP;
 use crate::meter::{Meter, Report};
 use crate::rate::RATES;
-use crate::records::Record;
+use crate::records::{script, Record};
 use crate::setting::{marked, Setting, USUAL_MARGIN};
 use crate::speech::voice;
 use crate::tally::Tally;

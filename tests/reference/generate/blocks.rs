@@ -109,10 +109,10 @@ impl Blocks<'_> {
 
     /// Right check words of zero, and 65535 stored in their place.
     fn zero_check_words(&mut self) {
-        for (zero_sum, zero_weighted) in [(true, false), (false, true), (true, true)] {
+        for wanted in [(0, 1), (1, 0), (0, 0)] {
             let own = self.random.between(1, 3) as u8;
             let base = sound(&mut self.random, own, 0, 248);
-            let sealed = tuned(&base, zero_sum, zero_weighted);
+            let sealed = tuned(&base, wanted);
             self.add(own, &sealed);
             for places in [&[508][..], &[510], &[508, 510]] {
                 let mut bytes = sealed.clone();
@@ -141,23 +141,21 @@ impl Blocks<'_> {
     }
 }
 
-/// The bytes sealed with chosen check words zero, by the last two samples of 248.
+/// A sound block of two samples or more with the wanted check words, by its last two samples.
 ///
-/// Their words weigh 1 and 1 in the sum, 2 and 1 in the weighted one.
-fn tuned(base: &[u8], zero_sum: bool, zero_weighted: bool) -> Vec<u8> {
-    let cleared = set(base, 504, &[0; 4]);
+/// Their words weigh 1 and 1 in the sum; in the weighted one the last weighs 249 less the count of
+/// samples, and the one before it 1 more.
+pub fn tuned(base: &[u8], wanted: (u64, u64)) -> Vec<u8> {
+    let count = block::count(base);
+    let at = block::FIRST_SAMPLE + 2 * (count - 2);
+    let cleared = set(base, at, &[0; 4]);
     let (sum, weighted) = block::check_words(&cleared);
-    let (wanted, wanted_weighted) = (65535 - sum, 65535 - weighted);
-    let (first, last) = match (zero_sum, zero_weighted) {
-        (true, true) => {
-            let first = (wanted_weighted + 65535 - wanted) % 65535;
-            (first, (wanted + 65535 - first) % 65535)
-        }
-        (true, false) => (0, wanted),
-        _ => (0, wanted_weighted),
-    };
+    let more = (wanted.0 + 65535 - sum) % 65535;
+    let more_weighted = (wanted.1 + 65535 - weighted) % 65535;
+    let first = (more_weighted + (65535 - more) * (249 - count as u64)) % 65535;
+    let last = (more + 65535 - first) % 65535;
     let words = [(first as u16).to_le_bytes(), (last as u16).to_le_bytes()].concat();
-    set(&cleared, 504, &words)
+    set(&cleared, at, &words)
 }
 
 /// Damages a block of 512 bytes once to three times.

@@ -8,6 +8,7 @@ use super::script::Script;
 use super::settings::{refused_setting, setting, MARGINS, REFUSED_MARGINS};
 use super::signals::{around, furthest, noise, placed, signal};
 use super::thresholds::{approach, targets};
+use super::writes::writing;
 use crate::block;
 use crate::meter::{Meter, MOST_IN_CHUNK, MOST_SAMPLES};
 use crate::percent::{difference, WHOLE};
@@ -68,7 +69,7 @@ fn step(script: &mut Script) {
     if stuck && script.random.once_in(2) {
         return open(script);
     }
-    match script.random.below(83) {
+    match script.random.below(86) {
         0..=1 => open(script),
         2..=21 => chunk(script),
         22..=37 => sound_block(script),
@@ -86,6 +87,7 @@ fn step(script: &mut Script) {
         75 => percentage_edge(script),
         76 => any_percentage(script),
         77 => reported(script, wavering),
+        78..=80 => write(script),
         _ => small_chunks(script),
     }
 }
@@ -156,6 +158,13 @@ fn refused_block(script: &mut Script) {
         _ => script.damaged(),
     };
     script.add(Record::Block(bytes));
+}
+
+/// A block written, which changes no meter.
+fn write(script: &mut Script) {
+    let record = Record::Write(writing(&mut script.random));
+    script.add(record);
+    script.add(Record::Show);
 }
 
 /// Noise, then a silence that outlasts envelope and hangover.

@@ -43,9 +43,14 @@ fn rising(random: &mut Random, I: u64) -> [u64; 15] {
 
 /// A meter that refusal 2 lets pass, with 1 to 2^48 - 1 samples.
 pub fn plausible(random: &mut Random, code: u8) -> Meter {
-    let rate = rate(u32::from(code)).expect("a named code");
     let bits = random.between(1, 48);
     let n = random.of_length(bits) as u64;
+    of_samples(random, code, n)
+}
+
+/// A meter of n samples, fewer than 2^48, that refusal 2 lets pass.
+pub fn of_samples(random: &mut Random, code: u8, n: u64) -> Meter {
+    let rate = rate(u32::from(code)).expect("a named code");
     let s = random.between(0, n << 15) as i64;
     let bits = random.between(1, 80);
     Meter {
