@@ -144,7 +144,7 @@ pub fn seal(bytes: &mut [u8]) {
     bytes[510..512].copy_from_slice(&(weighted as u16).to_le_bytes());
 }
 
-/// A sealed block of 1 to 248 samples (the customer's scope, "Sample blocks").
+/// A sealed block of samples; of 1 to 248 it is sound (the customer's scope, "Sample blocks").
 pub fn make(code: u8, before: u64, samples: &[i16]) -> Vec<u8> {
     let mut bytes = vec![0; LENGTH];
     bytes[0] = 1;

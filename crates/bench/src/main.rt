@@ -16,7 +16,7 @@ fn main() {
     let mut line = [0u8; 1024];
     let used = print::meter(&mut line, 0, measured(input::ahead(&bytes, source, 65543)));
     streams
-        .put(&mut lines, print::filled(&line, used))
+        .put(&mut lines, page::filled(&line, used))
         .closed(&lines, b"bench");
 }
 

@@ -1,18 +1,14 @@
 -- What the crates above know of a block: what soundness is in terms of the rules, what its part is, and what the host is told.
-use mathlib.Core.Bool.{Bool, true, false, cond, not, and-false}
-use mathlib.Core.List.{List, [], _∷_, _++_}
+use mathlib.Core.Bool.{Bool, true, false, not, and-false}
+use mathlib.Core.List.{List, [], _∷_}
 use mathlib.Core.Logic.{_↔_}
 use mathlib.Core.Path.{_≡_, refl, sym, ap, ap₂, _∙_}
-use Prim.Native.Nat.{ℕ, zero, suc, _+_, _-_, _*_, _/_, _^_, _≤_, _<_, min}
+use Prim.Native.Nat.{ℕ, zero, suc, _+_, _-_, _*_, _≤_, _<_}
 use native.Mathlib.Omega.{arith}
 use native.Mathlib.Nat.{add-assoc}
-use borrow.Author.Tests.{eqb-true, ltb-true, ltb-false, leb-true, not-true, not-false}
-use lib.Dec.{ltb}
-use lib.IntN.{ℤ, pos, negℤ}
-use mir.Syntax.{w16}
-use mir.Val.{SFits}
-use lib.ListN.{length, take, drop, length-drop, length-append}
-use lib.Seq.{getD-take, getD-drop, length-take-le, take-at}
+use borrow.Author.Tests.{eqb-true, leb-true, not-true, not-false}
+use lib.ListN.{length, take, drop, length-drop}
+use lib.Seq.{getD-take, getD-drop, length-take-le}
 use Rattle.refusal.specs.First.{firstOf, NoneApplies, numbered, rising, Given, Lowest}
 use Rattle.refusal.proofs.Laws.{past, given, given-lowest, both}
 use Rattle.rate.specs.Rates.{isNamed}

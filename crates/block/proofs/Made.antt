@@ -1,31 +1,31 @@
 -- What the crates above know of making a block: what was written is read again, by the fields, the check and the host; and a sound block, written
 -- afresh, has its own bytes.
-use mathlib.Core.Bool.{Bool, true, false, cond, not}
-use mathlib.Core.List.{List, [], _∷_, _++_, append-assoc, append-nil}
+use mathlib.Core.Bool.{true, cond, not}
+use mathlib.Core.List.{List, [], _++_, append-assoc, append-nil}
 use mathlib.Core.Path.{_≡_, refl, sym, ap, ap₂, _∙_, subst}
 use Prim.Native.Nat.{ℕ, zero, suc, _+_, _-_, _*_, _%_, _^_, _≤_, _<_}
 use native.Mathlib.Omega.{arith}
-use borrow.Author.Tests.{ne-eqb, le-leb, leb-true, not-false}
+use borrow.Author.Tests.{ne-eqb, not-false}
 use lib.Dec.{eqb}
 use lib.IntN.{ℤ}
-use lib.ListN.{length, getD, drop, replicate, length-append, length-replicate, List·getD-append, drop-of-length-le}
+use lib.ListN.{length, drop, replicate, length-append, length-replicate, List·getD-append, drop-of-length-le}
 use lib.Seq.{sets, sets-eq}
 use Rattle.level.specs.Types.{mostSamples}
 use Rattle.rate.specs.Rates.{isNamed}
 use Rattle.rate.proofs.Laws.{named-small}
 use Rattle.refusal.specs.First.{firstOf, NoneApplies, rising, Given, Lowest}
-use Rattle.refusal.proofs.Laws.{past, none, both, given-lowest}
+use Rattle.refusal.proofs.Laws.{past, none, given-lowest}
 use Rattle.coding.specs.Numbers.{numberAt, bytesOf}
 use Rattle.coding.specs.Samples.{samplesAt, bytesOfSamples}
 use Rattle.coding.specs.Typed.{AllSamples, AllBytes}
 use Rattle.coding.proofs.Bytes.{rest-is, bytes-length, read-number, again-number, samples-bytes-length, read-samples, again-samples}
 use Rattle.coding.proofs.Parts.{behind, sets-all}
 use Rattle.block.specs.Block.{kind, rateCode, count, before, samplesIn, word, sumBelow, checkSum, weightedSum}
-use Rattle.block.specs.Refusals.{wrongLength, wrongCheck, wrongKind, wrongCount, usedUnused, zeros, sound, hostCheck}
+use Rattle.block.specs.Refusals.{usedUnused, zeros, sound, hostCheck}
 use Rattle.block.specs.Written.{contentsOf, blockOf, unwritable, writeRules, writeCall}
 use Rattle.block.proofs.Conditions.{length-right, check-right, checks-are, kind-right, kind-is, count-right, writable-is, writable-facts}
 use Rattle.block.proofs.Numbers.{read-zeros, again-zeros}
-use Rattle.block.proofs.Laws.{Sound, sound-is, is-sound, sound-accepted, sound-length, sound-count, samples-length, host-told}
+use Rattle.block.proofs.Laws.{sound-is, is-sound, sound-length, sound-count, samples-length, host-told}
 
 -- ---- the call
 
@@ -228,7 +228,7 @@ module _ (code n : ℕ) (xs : List ℤ) where
     unfolding samplesIn
     samples-written a = ap (samplesAt (blockOf code n xs) 12) count-written ∙ read-samples _ xs 12 _ a from-12
 
-    -- the stored check words code n xs are those that the whole block asks for
+    -- the stored check words are those that the whole block asks for
     sum-written : numberAt (blockOf code n xs) 508 2 ≡ checkSum (blockOf code n xs)
     unfolding words
     sum-written =

@@ -15,7 +15,7 @@ use Rattle.refusal.specs.Number.{numberGiven}
 use Rattle.block.specs.Block.{checkSum, weightedSum}
 use Rattle.block.specs.Refusals.{wrongLength}
 
--- bytes 0 to 507: the kind, the rate code, the count, the number of samples before, the samples, and zeros for the unused bytes
+-- bytes 0 to 507, of at most 248 samples: the kind, the rate code, the count, the number of samples before, the samples, and zeros for the unused bytes
 unfoldable pub contentsOf : (code before : ℕ) → List ℤ → List ℕ
 contentsOf code before xs =
     bytesOf 1 1
@@ -29,7 +29,7 @@ contentsOf code before xs =
 unfoldable pub blockOf : (code before : ℕ) → List ℤ → List ℕ
 blockOf code before xs = let b = contentsOf code before xs in b ++ bytesOf 2 (checkSum b) ++ bytesOf 2 (weightedSum b)
 
--- 18: the samples, k of them, are not 1 to 248, or would end above 2^48
+-- 18: the number k of samples is not 1 to 248, or they would end above 2^48
 unfoldable pub unwritable : (before k : ℕ) → Bool
 unwritable before k = not (leb 1 k && leb k 248 && leb (before + k) mostSamples)
 
@@ -42,7 +42,7 @@ pub record Written : Type 0 where
   pub number : ℕ
   pub buffer : List ℕ
 
--- what an answer of the code says
+-- what an answer says, with the buffer
 abbrev pub writtenBy : Answer → (buffer : List ℕ) → Written
 writtenBy r buffer = record { number = numberGiven r; buffer = buffer }
 

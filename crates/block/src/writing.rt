@@ -30,7 +30,8 @@ pub fn write(code: u32, before: u64, samples: &[i16], buffer: &mut [u8]) -> Answ
     Answer::Accepted
 }
 
-// Whether so many samples make no block. The end is not added up, since the sum could pass 2^64.
+// Whether so many samples behind so many others make no block. The end is not added up, since the
+// sum could pass 2^64.
 fn unwritable(before: u64, count: usize) -> bool
     ensures { λ r. ⌜ r ≡ unwritableIn before count ⌝ }
 {

@@ -1,4 +1,4 @@
--- Numbers in bytes, little-endian: METHOD.md, "Sample blocks". What lies past the end of a list of bytes reads as 0.
+-- Numbers in bytes, little-endian: METHOD.md, "Sample blocks" and "Making a block". What lies past the end of a list of bytes reads as 0.
 use mathlib.Core.List.{List, [], _∷_}
 use Prim.Native.Nat.{ℕ, zero, suc, _+_, _*_, _/_, _%_}
 use lib.ListN.{getD}
@@ -8,7 +8,7 @@ unfoldable pub numberAt : List ℕ → ℕ → ℕ → ℕ
 numberAt b at zero = 0
 numberAt b at (suc size) = getD b at 0 + 256 * numberAt b (at + 1) size
 
--- the bytes of a number, as many as size says, little-endian
+-- the bytes of x, as many as size says, little-endian; what does not fit them is dropped
 unfoldable pub bytesOf : (size x : ℕ) → List ℕ
 bytesOf zero x = []
 bytesOf (suc size) x = x % 256 ∷ bytesOf size (x / 256)

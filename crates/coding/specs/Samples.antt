@@ -1,4 +1,4 @@
--- Samples in bytes, two bytes each: METHOD.md, "Sample blocks".
+-- Samples in bytes, two bytes each: METHOD.md, "Sample blocks" and "Making a block".
 use mathlib.Core.Bool.{cond}
 use mathlib.Core.List.{List, [], _∷_, _++_}
 use Prim.Native.Nat.{ℕ, zero, suc, _+_, _-_, _/_, _^_, min}

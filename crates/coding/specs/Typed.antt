@@ -1,4 +1,4 @@
--- What types say of lists: samples are signed 16-bit numbers, and bytes are below 256.
+-- What types say of lists: samples are signed 16-bit numbers (METHOD.md, "One sample"), and bytes are below 256.
 use mathlib.Core.List.{List, [], _∷_}
 use Prim.Native.Nat.{ℕ, _<_}
 use lib.IntN.{ℤ}

@@ -25,7 +25,8 @@ pub fn least(a: usize, b: usize) -> usize
     if a < b { a } else { b }
 }
 
-// The sample at a place: two bytes, two's complement.
+// The sample at a place: two bytes, two's complement. They are read without a test for the end, which
+// `decode` has made for all.
 fn sample(bytes: &[u8], at: usize) -> i16
     requires { ⌜ at + 1 < length (now bytes) ⌝ }
     ensures { λ r. ⌜ r ≡ signed (numberAt (now (bytes .entry)) at 2) ⌝ }

@@ -1,5 +1,5 @@
 -- His request L6: a written block holds the samples that it was made of, passes the host's check, and is taken by a meter that stands where it begins.
-use mathlib.Core.Bool.{true, false, not}
+use mathlib.Core.Bool.{false, not}
 use mathlib.Core.List.{List}
 use mathlib.Core.Path.{_≡_, sym, ap, ap₂, _∙_, subst}
 use Prim.Native.Nat.{ℕ, _+_}

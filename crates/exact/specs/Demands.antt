@@ -113,8 +113,8 @@ pub record Demand1 : Type 0 where
   pub zeros-block : (m : Meter) → Zeros m → (b : List ℕ) → blockCall m b .number ≡ 2
   pub zeros-report : (m : Meter) → Zeros m → reportCall m .number ≡ 2
   -- "writes into nothing lent": `Meter::chunk` and `Meter::block` are lent `&[i16]` and `&[u8]`, which nothing can be written through, and
-  -- `hoggetwhirl_check_block` too. The one call that is lent a buffer to write into is `write`: as his request L6 has it, "A refusal leaves the buffer
-  -- untouched"
+  -- `hoggetwhirl_check_block` too. Of the calls that a host makes, `write` alone is lent a buffer to write into: as his request L6 has it, "A refusal
+  -- leaves the buffer untouched"
   pub write-refused : (code n : ℕ) (xs : List ℤ) (buffer : List ℕ) → 0 < writeCall code n xs buffer .number → writeCall code n xs buffer .buffer ≡ buffer
 
 -- ---- demand 2: "Nothing reported may differ from method B"
@@ -129,7 +129,7 @@ pub record SameMeasurement (c c′ : Setting) (calls : List Call) : Type 0 where
   pub answers : answersTo c′ calls ≡ answersTo c calls
   pub state : meterAfter c′ calls .state ≡ meterAfter c calls .state
 
--- a block that was made of a rate code, n samples before it and samples xs: it holds these samples, the host's check of it gives 0, and any meter of
+-- of a block b, a rate code, a number n of samples before it and samples xs: b holds these samples, the host's check of it gives 0, and any meter of
 -- that code and that n which 2 does not refuse takes them
 pub record ReadsBack (code n : ℕ) (xs : List ℤ) (b : List ℕ) : Type 0 where
   pub samples : samplesIn b ≡ xs
@@ -167,10 +167,12 @@ pub record Demand2 : Type 0 where
   -- "a sample block is taken exactly when it breaks none of the rules"; taken, its samples are
   pub block-taken : (m : Meter) (b : List ℕ) → (blockCall m b .number ≡ 0) ↔ NoneApplies (blockCallRules m b)
   pub block-samples : (m : Meter) (b : List ℕ) → blockCall m b .number ≡ 0 → blockCall m b .meter ≡ afterSamples m (samplesIn b)
-  -- and, as his request L6 has it, "A written block reads back to the same samples at any meter with that code and that n which 2 does not refuse"
+  -- and, as his request L6 has it, "A written block reads back to the same samples at any meter with that code and that n which 2 does not refuse"; the
+  -- samples are signed 16-bit numbers, as their type says
   pub written : (code n : ℕ) (xs : List ℤ) (buffer : List ℕ) → AllSamples xs → writeCall code n xs buffer .number ≡ 0
       → ReadsBack code n xs (writeCall code n xs buffer .buffer)
-  -- "and any sound block whose samples end at 2^48 or below, written afresh from its own contents, has its own bytes", into any buffer of 512 bytes
+  -- "and any sound block whose samples end at 2^48 or below, written afresh from its own contents, has its own bytes", into any buffer of
+  -- 512 bytes; those of the block are below 256, as their type says
   pub afresh : (b buffer : List ℕ) → AllBytes b → sound b ≡ true → before b + count b ≤ mostSamples → length buffer ≡ 512
       → writeCall (rateCode b) (before b) (samplesIn b) buffer ≡ record { number = 0; buffer = b }
   -- an accepted chunk's samples are taken; an empty one is accepted where 2 does not refuse the meter, and changes nothing

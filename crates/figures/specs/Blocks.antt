@@ -1,4 +1,4 @@
--- The blocks of rows, each made of its fields: METHOD.md, "Sample blocks". The check words are given, and not worked out here.
+-- The blocks of rows, each made of its fields, and two byte for byte: METHOD.md, "Sample blocks". The check words are given, and not worked out here.
 use mathlib.Core.List.{List, [], _∷_, _++_}
 use Prim.Native.Nat.{ℕ, _-_, _*_, _^_}
 use lib.IntN.{ℤ, pos, negsuc}
@@ -44,9 +44,12 @@ endBlock = blockWith 1 1 1 (2 ^ 48) (1 ∷ []) 260 493
 unfoldable pub twenty : List ℕ
 twenty = blockWith 1 1 20 40 (replicate 20 32768) 327 17268
 
--- one sample that ends at 2^48
+-- one sample that ends at 2^48, and as many as a block holds that end there
 unfoldable pub lastBlock : List ℕ
 lastBlock = blockWith 1 1 1 (2 ^ 48 - 1) (1 ∷ []) 259 244
+
+unfoldable pub lastFull : List ℕ
+lastFull = blockWith 1 1 248 (2 ^ 48 - 248) (replicate 248 1) 506 31119
 
 -- byte for byte: the customer's example, one sample 32767; and, at code 3, samples 258 and −2 with 6618611909121 before them
 unfoldable pub exampleBytes : List ℕ
@@ -58,7 +61,7 @@ plainBytes =
     ++ (2 ∷ 1 ∷ 254 ∷ 255 ∷ replicate 492 0)
     ++ (13 ∷ 16 ∷ 207 ∷ 190 ∷ [])
 
--- a buffer before a block is made in it
+-- a buffer before a block is made in it: bytes of 165
 abbrev pub lent : (size : ℕ) → List ℕ
 lent size = replicate size 165
 
@@ -66,7 +69,7 @@ lent size = replicate size 165
 unfoldable pub threeBytes : List ℕ
 threeBytes = 1 ∷ 1 ∷ 1 ∷ []
 
--- 5: the first check word is another, or 65535 for 0; or the second is another. In all the others both are right
+-- 5: the first check word is another, or 65535 for 0; or the second is another. In all other blocks of 512 bytes both are right
 unfoldable pub otherSum : List ℕ
 otherSum = blockWith 1 1 3 0 three 1 34844
 

@@ -74,7 +74,7 @@ pub data Row : Type 0 where
   answered : Meter → List Call → (numbers : List ℕ) → Row
   -- the line host hands over bytes and a code, and is answered with number
   checked : (bytes : List ℕ) (code number : ℕ) → Row
-  -- a block made of a code, a number before and samples is answered with number, and the lent buffer is then after
+  -- making a block of a code, a number before and samples is answered with number, and leaves the lent buffer as after says
   made : (code before : ℕ) (xs : List ℤ) (buffer : List ℕ) (number : ℕ) (after : List ℕ) → Row
   -- after an opening and calls the meter has these values
   played : Setting → List Call → Values → Row

@@ -9,7 +9,7 @@ use Rattle.setting.specs.Settings.{usualSetting}
 use Rattle.meter.specs.declared.Meter.{Meter}
 use Rattle.meter.specs.Calls.{openCall}
 use Rattle.exact.specs.Calls.{Call, chunk, block}
-use Rattle.figures.specs.Blocks.{samplesOfThree, soundBlock, fullBlock, endBlock, twenty, lastBlock, exampleBytes, plainBytes, lent, threeBytes, otherSum, highSum, otherWeighted, otherKind, otherCode, noCount, highCount, usedNext, usedLast}
+use Rattle.figures.specs.Blocks.{samplesOfThree, soundBlock, fullBlock, endBlock, twenty, lastBlock, lastFull, exampleBytes, plainBytes, lent, threeBytes, otherSum, highSum, otherWeighted, otherKind, otherCode, noCount, highCount, usedNext, usedLast}
 use Rattle.figures.specs.Meters.{offsetBy, marginBy, freshAt, given, plain, withCode, withOffset, withMargin, withN, withS, withSq, withP, withQ, withA, withH}
 use Rattle.figures.specs.Rows.{Values, Row, level, noLevel, percent, sampled, reported, refused, opened, handedIn, answered, checked, made, played, counted, needsTwo, needsD}
 
@@ -283,7 +283,7 @@ table =
     ∷ checked highCount 1 8
     ∷ checked usedNext 1 9
     ∷ checked usedLast 1 9
-    -- blocks made: byte for byte, with a check word of 0, full, at the other rates, and such as end at 2^48
+    -- blocks made: byte for byte, with a check word of 0, at another rate, full, over another block, and ending at 2^48 with one sample and with 248
     ∷ made 1 0 (pos 32767 ∷ []) (lent 512) 0 exampleBytes
     ∷ made 3 6618611909121 (pos 258 ∷ minus 2 ∷ []) (lent 512) 0 plainBytes
     ∷ made 1 0 samplesOfThree (lent 512) 0 soundBlock
@@ -291,6 +291,7 @@ table =
     ∷ made 1 0 (replicate 248 (pos 1)) (lent 512) 0 fullBlock
     ∷ made 1 40 (replicate 20 (minus 32768)) fullBlock 0 twenty
     ∷ made 1 (2 ^ 48 - 1) (pos 1 ∷ []) (lent 512) 0 lastBlock
+    ∷ made 1 (2 ^ 48 - 248) (replicate 248 (pos 1)) (lent 512) 0 lastFull
     -- and refused: 1 before 4 and 18, 4 before 18, and 18 at each of its edges, where the sum would wrap at 2^64 too
     ∷ made 0 0 [] (lent 3) 1 (lent 3)
     ∷ made 4 0 (pos 1 ∷ []) (lent 512) 1 (lent 512)

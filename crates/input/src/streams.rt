@@ -2,8 +2,8 @@
 use crate::Coming;
 use crate::Source;
 use crate::source;
-use print::Page;
-use print::Writing;
+use page::Page;
+use page::Writing;
 
 pub struct Streams {
     pub source: Source,
@@ -48,7 +48,7 @@ impl Streams {
         }
     }
 
-    // The streams with a line more that waits to be written.
+    // The streams with a line more, or a piece of one, that waits to be written.
     pub fn put(self, lines: &mut [u8], line: &[u8]) -> Streams {
         let source = self.source;
         let page = self.page;
@@ -81,11 +81,11 @@ impl Streams {
         let page = self.page;
         let coming = source.coming;
         if let Coming::Failed(error) = coming {
-            print::unread(program, source.read, error);
+            page::unread(program, source.read, error);
         }
         let writing = page.written(lines).writing;
         if let Writing::Failed(error) = writing {
-            print::unwritten(program, error);
+            page::unwritten(program, error);
         }
     }
 }

@@ -4,13 +4,13 @@ ghost use Rattle.refusal.specs.Number.{numberOf, numberGiven};
 
 // Each reason under its own name. Its number is the one that the host is given.
 pub enum Refusal {
-    // 1: opening with a code that names no rate
+    // 1: opening, or making a block, with a code that names no rate
     UnnamedRate,
     // 2: a meter that no measurement could hold
     ImpossibleMeter,
     // 3: a chunk of more than 4096 samples
     LongChunk,
-    // 4: a block that is not 512 bytes long
+    // 4: a block, or the buffer for one, that is not 512 bytes long
     BlockLength,
     // 5: a check word of the block is wrong
     BlockCheck,

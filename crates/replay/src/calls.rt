@@ -30,7 +30,7 @@ pub fn answered(record: &[u8], meter: Meter, samples: &mut [i16], line: &mut [u8
         4 => report(meter, line),
         5 => Answer {
             meter: loaded(record),
-            used: print::words(line, 0, b"load\n"),
+            used: page::words(line, 0, b"load\n"),
         },
         6 => Answer {
             meter,

@@ -6,7 +6,7 @@ use input::Streams;
 
 // A word on the command line.
 pub fn word() {
-    print::told(
+    page::told(
         b"replay takes no words: it reads records of calls from standard input, as crates/replay/src/main.rt has them, and prints a line for each\n",
     );
 }
@@ -32,8 +32,8 @@ fn cut(streams: Streams, k: u64, place: u64, lines: &mut [u8]) -> Streams {
     if let Coming::End = coming {
         let mut line = [0u8; 128];
         let used = began(&mut line, k, place);
-        let used = print::words(&mut line, used, b"the input ends inside it\n");
-        print::told(print::filled(&line, used));
+        let used = page::words(&mut line, used, b"the input ends inside it\n");
+        page::told(page::filled(&line, used));
         return bad(streams, k, lines);
     }
     streams
@@ -42,26 +42,26 @@ fn cut(streams: Streams, k: u64, place: u64, lines: &mut [u8]) -> Streams {
 fn unknown(k: u64, place: u64, kind: u8) {
     let mut line = [0u8; 128];
     let used = began(&mut line, k, place);
-    let used = print::words(&mut line, used, b"no record is of kind");
-    let used = print::spaced(&mut line, used, kind as u64);
-    let used = print::end_of_line(&mut line, used);
-    print::told(print::filled(&line, used));
+    let used = page::words(&mut line, used, b"no record is of kind");
+    let used = page::spaced(&mut line, used, kind as u64);
+    let used = page::end_of_line(&mut line, used);
+    page::told(page::filled(&line, used));
 }
 
 // A record's number and where it starts.
 fn began(line: &mut [u8], k: u64, place: u64) -> usize {
-    let used = print::words(line, 0, b"replay: record");
-    let used = print::spaced(line, used, k);
-    let used = print::words(line, used, b" at byte");
-    let used = print::spaced(line, used, place);
-    print::words(line, used, b": ")
+    let used = page::words(line, 0, b"replay: record");
+    let used = page::spaced(line, used, k);
+    let used = page::words(line, used, b" at byte");
+    let used = page::spaced(line, used, place);
+    page::words(line, used, b": ")
 }
 
 // The line of a bad record.
 fn bad(streams: Streams, k: u64, lines: &mut [u8]) -> Streams {
     let mut line = [0u8; 64];
-    let used = print::words(&mut line, 0, b"bad record");
-    let used = print::spaced(&mut line, used, k);
-    let used = print::end_of_line(&mut line, used);
-    streams.put(lines, print::filled(&line, used))
+    let used = page::words(&mut line, 0, b"bad record");
+    let used = page::spaced(&mut line, used, k);
+    let used = page::end_of_line(&mut line, used);
+    streams.put(lines, page::filled(&line, used))
 }

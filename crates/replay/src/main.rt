@@ -11,16 +11,17 @@
 //   7 lev      high u64, low u64                 prints `lev v`, or `lev none`
 //   8 check    code u8, length u16, bytes        prints `check r`, the C host's answer
 //   9 write    code u8, number of samples before u64, count u16, count samples i16, length u16
-//                                                prints `write r`, and the buffer in hexadecimal
+//                                                prints `write r`, and the buffer
 //
 // r is the refusal's number, or 0. The 39 values are the code u8, the offset i16 and then, eight bytes
 // each, the margin, n, s, sq high, sq low, P, Q, the fifteen a_j and the fifteen h_j. A report's 28 values
 // are its n, s, sq high, sq low, the fifteen a_j, L, A, C, F, the lower and upper j, T, the margin and its
 // mark, 0 or 1. Record 9 makes a block in a buffer that is as long as its last field says and holds bytes of
-// 165 before; where it has a byte, all of it is shown, after a space. The run starts with a meter of all
-// zeros; open and load replace it. A record that is cut short, or of another kind, ends the run with the line
-// `bad record k`, where k is its number, from 1; standard error says where it starts and what is wrong with
-// it. A failure to read or to write ends the run with a line on standard error alone.
+// 165 before; where it has a byte, all of it is shown, after a space, in lower-case hexadecimal. The run
+// starts with a meter of all zeros; open and load replace it. A record that is cut short, or of another
+// kind, ends the run with the line `bad record k`, where k is its number, from 1; standard error says where
+// it starts and what is wrong with it. A failure to read or to write ends the run with a line on standard
+// error alone.
 mod calls;
 mod faults;
 mod questions;
@@ -31,6 +32,7 @@ use calls::Answer;
 use input::Streams;
 use meter::Meter;
 use setting::Setting;
+use writing::Wrote;
 
 // How a run goes on: with another record; not at all, since no more can be read or written; or not at
 // all, since a record is of no known kind or is cut short.
@@ -127,10 +129,23 @@ fn whole(
     lines: &mut [u8],
 ) -> Run {
     if records::is_write(records::ahead(bytes, streams)) {
-        return writing::played(meter, streams, bytes, samples, line, lines);
+        let source = streams.source;
+        let wrote = writing::played(streams, bytes, samples, line, lines);
+        return ran(meter, wrote, source.place());
     }
     let answer = calls::answered(records::ahead(bytes, streams), meter, samples, line);
     passed(answer, streams, bytes, line, lines)
+}
+
+// The run after a record that makes a block, which leaves the meter alone.
+fn ran(meter: Meter, wrote: Wrote, place: u64) -> Run {
+    let streams = wrote.streams;
+    Run {
+        meter,
+        streams,
+        place,
+        going: if wrote.whole { Going::On } else { Going::Cut },
+    }
 }
 
 // Reads through the rest of the record that is answered, and puts its line on the page where all of the
@@ -156,7 +171,7 @@ fn passed(
     }
     Run {
         meter,
-        streams: begun.put(lines, print::filled(line, answer.used)),
+        streams: begun.put(lines, page::filled(line, answer.used)),
         place: source.place(),
         going: Going::On,
     }

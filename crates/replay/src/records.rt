@@ -62,8 +62,9 @@ fn length(record: &[u8]) -> usize {
 // How many of a record's bytes are kept to play it. Of a chunk longer than a call can take these are the
 // first 4097 samples, and of such a block the first 513 bytes: a meter that refusal 2 lets through
 // refuses every longer chunk with 3 and every longer block with 4, and the host's check gives 1 by the
-// code alone or else 4. Of the samples to make a block of, the first 249 are kept: no call makes a
-// block of more. So the answer depends on the meter, the code and these bytes alone.
+// code alone or else 4. Of the samples to make a block of these are the first 249, which are refused as
+// any more are. So the answer depends on the meter and on these bytes alone, and in making a block on
+// the last field, which comes behind all samples.
 fn kept(record: &[u8]) -> usize {
     let whole = length(record);
     match coding::one_byte(record, 0) {

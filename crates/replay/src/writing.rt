@@ -2,19 +2,21 @@
 // samples, of which more may come than are kept.
 ghost use Prim.Native.Nat.{_<_};
 ghost use lib.ListN.{length};
-use crate::Going;
-use crate::Run;
 use crate::records;
 use input::Streams;
-use meter::Meter;
+
+// The streams after a record, and whether all of it came.
+pub struct Wrote {
+    pub streams: Streams,
+    pub whole: bool,
+}
 
 // What a record asks, but for the buffer: a rate code, the number of samples before, and how many of
-// its samples are kept. And where the record starts.
+// its samples are kept.
 struct Asked {
     code: u32,
     before: u64,
     count: usize,
-    place: u64,
 }
 
 // Bytes of this number are in the buffer before the call.
@@ -27,33 +29,30 @@ const LENT: usize = 513;
 // Plays the record ahead: decodes the samples that are kept, reads through the others, and then the
 // length.
 pub fn played(
-    meter: Meter,
     streams: Streams,
     bytes: &mut [u8],
     samples: &mut [i16],
     line: &mut [u8],
     lines: &mut [u8],
-) -> Run {
-    let asked = fields(streams, bytes, samples);
+) -> Wrote {
+    let asked = fields(records::ahead(bytes, streams), samples);
     let begun = last_field(streams, bytes, lines);
-    answered(meter, asked, begun, bytes, samples, line, lines)
+    answered(asked, begun, bytes, samples, line, lines)
 }
 
-// The fields of the record ahead but for the last, the samples into a buffer.
-fn fields(streams: Streams, bytes: &[u8], samples: &mut [i16]) -> Asked {
-    let source = streams.source;
-    let record = records::ahead(bytes, streams);
+// The fields of a record but for the last, the samples into a buffer.
+fn fields(record: &[u8], samples: &mut [i16]) -> Asked {
     let part = records::after(record, 12);
     coding::decode(part, samples);
     Asked {
         code: coding::one_byte(record, 1) as u32,
         before: coding::eight_bytes(record, 2),
         count: coding::least(part.len() / 2, samples.len()),
-        place: source.place(),
     }
 }
 
-// The streams once all before the last field is read through, and that field is read.
+// The streams once all before the last field is read through, and that field is read. Where the input
+// ends before it, nothing of it is ahead.
 fn last_field(streams: Streams, bytes: &mut [u8], lines: &mut [u8]) -> Streams {
     let passed = records::passed(streams, bytes, lines).streams;
     passed.ready(bytes, lines, 2)
@@ -61,30 +60,24 @@ fn last_field(streams: Streams, bytes: &mut [u8], lines: &mut [u8]) -> Streams {
 
 // Makes the block and shows the buffer, where the last field came.
 fn answered(
-    meter: Meter,
     asked: Asked,
     streams: Streams,
     bytes: &[u8],
     samples: &[i16],
     line: &mut [u8],
     lines: &mut [u8],
-) -> Run {
+) -> Wrote {
     let source = streams.source;
-    let place = asked.place;
     if source.unused() < 2 {
-        return Run {
-            meter,
+        return Wrote {
             streams,
-            place,
-            going: Going::Cut,
+            whole: false,
         };
     }
     let size = coding::two_bytes(input::ahead(bytes, source, 2), 0) as usize;
-    Run {
-        meter,
+    Wrote {
         streams: written(asked, samples, size, streams.used(2), line, lines),
-        place,
-        going: Going::On,
+        whole: true,
     }
 }
 
@@ -118,16 +111,16 @@ fn made(asked: Asked, samples: &[i16], size: usize, lent: &mut [u8]) -> u64 {
 
 // How the line begins: with the number, and a space where there is a byte to show.
 fn begun(line: &mut [u8], number: u64, size: usize) -> usize {
-    let used = print::words(line, 0, b"write");
-    let used = print::spaced(line, used, number);
+    let used = page::words(line, 0, b"write");
+    let used = page::spaced(line, used, number);
     if 0 < size {
-        return print::words(line, used, b" ");
+        return page::words(line, used, b" ");
     }
     used
 }
 
-// The rest of the line: the buffer in hexadecimal. What the line can't hold goes to the page before
-// the end of it.
+// The rest of the line: the buffer in hexadecimal. One longer than what is lent is shown piece by
+// piece: all of it is bytes of `HELD`.
 fn shown(
     lent: &[u8],
     size: usize,
@@ -142,17 +135,17 @@ fn shown(
     let mut used = used;
     let mut left = size;
     while lent.len() < left {
-        used = print::hexadecimal(line, used, lent);
-        streams = streams.put(lines, print::filled(line, used));
+        used = page::hexadecimal(line, used, lent);
+        streams = streams.put(lines, page::filled(line, used));
         used = 0;
         left -= lent.len();
     }
-    used = print::hexadecimal(line, used, &lent[0..left]);
+    used = page::hexadecimal(line, used, &lent[0..left]);
     ended(streams, line, used, lines)
 }
 
 // The line's end, and the line on the page.
 fn ended(streams: Streams, line: &mut [u8], used: usize, lines: &mut [u8]) -> Streams {
-    let used = print::end_of_line(line, used);
-    streams.put(lines, print::filled(line, used))
+    let used = page::end_of_line(line, used);
+    streams.put(lines, page::filled(line, used))
 }

@@ -17,7 +17,7 @@ use setting::Setting;
 
 fn main() {
     if os::arg_count() > 1 {
-        print::told(
+        page::told(
             b"report takes no words: it reads sample blocks of 512 bytes from standard input, and prints a line for each that is refused and then those about the measurement\n",
         );
         return;
@@ -30,7 +30,7 @@ fn main() {
         let mut line = [0u8; 1024];
         let used = reported(&mut line, measured.meter);
         streams
-            .put(&mut lines, print::filled(&line, used))
+            .put(&mut lines, page::filled(&line, used))
             .closed(&lines, b"report");
     } else {
         streams.closed(&lines, b"report");
@@ -131,19 +131,19 @@ fn told(streams: Streams, k: u64, fed: Fed, lines: &mut [u8]) -> Streams {
         Answer::Accepted => streams,
         Answer::Refused(why) => {
             let mut line = [0u8; 64];
-            let used = print::words(&mut line, 0, b"block");
-            let used = print::spaced(&mut line, used, k);
-            let used = print::words(&mut line, used, b" ");
+            let used = page::words(&mut line, 0, b"block");
+            let used = page::spaced(&mut line, used, k);
+            let used = page::words(&mut line, used, b" ");
             let used = refused(&mut line, used, refusal::number(why));
-            streams.put(lines, print::filled(&line, used))
+            streams.put(lines, page::filled(&line, used))
         }
     }
 }
 
 fn refused(line: &mut [u8], used: usize, number: u32) -> usize {
-    let used = print::words(line, used, b"refused");
-    let used = print::spaced(line, used, number as u64);
-    print::end_of_line(line, used)
+    let used = page::words(line, used, b"refused");
+    let used = page::spaced(line, used, number as u64);
+    page::end_of_line(line, used)
 }
 
 // The closing lines.
@@ -162,31 +162,31 @@ fn sums(line: &mut [u8], state: State) -> usize {
     let sums = state.sums;
     let sq = sums.sq;
     let a = state.a;
-    let used = print::words(line, 0, b"samples");
-    let used = print::spaced(line, used, sums.n.count());
-    let used = print::words(line, used, b"\nsum");
-    let used = print::spaced_signed(line, used, sums.s);
+    let used = page::words(line, 0, b"samples");
+    let used = page::spaced(line, used, sums.n.count());
+    let used = page::words(line, used, b"\nsum");
+    let used = page::spaced_signed(line, used, sums.s);
     let used = squares(line, used, sq);
     counts(line, used, a)
 }
 
 fn squares(line: &mut [u8], used: usize, sq: Squares) -> usize {
-    let used = print::words(line, used, b"\nsquares");
-    let used = print::spaced(line, used, sq.high);
-    print::spaced(line, used, sq.low)
+    let used = page::words(line, used, b"\nsquares");
+    let used = page::spaced(line, used, sq.high);
+    page::spaced(line, used, sq.low)
 }
 
 fn counts(line: &mut [u8], used: usize, a: [Samples; THRESHOLDS]) -> usize {
-    let used = print::words(line, used, b"\ncounts");
+    let used = page::words(line, used, b"\ncounts");
     let used = print::counts(line, used, a);
-    print::end_of_line(line, used)
+    page::end_of_line(line, used)
 }
 
 // The line of the levels, and the percentage after it.
 fn levels(line: &mut [u8], used: usize, report: Report) -> usize {
-    let used = print::words(line, used, b"level");
+    let used = page::words(line, used, b"level");
     let used = print::levels(line, used, report.levels);
-    let used = print::words(line, used, b"\npercent");
-    let used = print::spaced(line, used, report.percent.number());
-    print::end_of_line(line, used)
+    let used = page::words(line, used, b"\npercent");
+    let used = page::spaced(line, used, report.percent.number());
+    page::end_of_line(line, used)
 }

@@ -16,7 +16,7 @@ fn main() {
     let used = full(&mut lines, 0);
     let used = chunks(&mut lines, used);
     let used = reports(&mut lines, used);
-    io::write_all(STDOUT_FILENO, print::filled(&lines, used));
+    io::write_all(STDOUT_FILENO, page::filled(&lines, used));
 }
 
 // A meter that has taken 2^48 samples takes no other, but an empty chunk.

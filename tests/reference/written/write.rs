@@ -20,7 +20,7 @@ type Kind = (&'static str, fn(&Write) -> bool);
 /// The kinds that must occur: each answer, at each bound and just past it; refusals that are the
 /// first of several; check words at the ends of their range.
 ///
-/// The words of a block never sum up to 0: where a check word is 0, they do to a multiple of 65535.
+/// The words of a block never sum up to 0, so that a check word of 0 is that of a multiple of 65535.
 pub const KINDS: [Kind; 20] = [
     ("refused with 1", |w| w.r == 1),
     ("refused with 4", |w| w.r == 4),

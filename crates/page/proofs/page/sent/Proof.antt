@@ -4,8 +4,8 @@ use Prim.Native.Nat.{_+_, _-_, _≤_}
 use native.Mathlib.Omega.{arith}
 use lib.ListN.{length}
 use mathlib.Core.Logic.{⊎-elim}
-use Rattle.print.proofs.page.sent.Statement.{statement}
-use Rattle.print.proofs.page.sent.Tie as tie
+use Rattle.page.proofs.page.sent.Statement.{statement}
+use Rattle.page.proofs.page.sent.Tie as tie
 
 abbrev Inv-loop : tie.InvT-loop
 Inv-loop fd bytes done₀ tries₀ done tries = (done ≤ length bytes) × (tries ≤ 100)

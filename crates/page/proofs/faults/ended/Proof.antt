@@ -1,8 +1,8 @@
 -- The error's number fits the wider type.
 use borrow.Author.Needs.{needs}
 use Rattle.signed.proofs.Casts.{widens}
-use Rattle.print.proofs.faults.ended.Statement.{statement}
-use Rattle.print.proofs.faults.ended.Tie as tie
+use Rattle.page.proofs.faults.ended.Statement.{statement}
+use Rattle.page.proofs.faults.ended.Tie as tie
 
 cast-spaced-signed : tie.Need-cast-spaced-signed
 cast-spaced-signed c = widens tt (c .before .before .before .before .before .before .before .fits .error)

@@ -3,8 +3,8 @@ use borrow.Author.Needs.{needs}
 use mathlib.Core.Path.{_≡_}
 use Prim.Native.Nat.{_-_, _≤_}
 use lib.ListN.{length}
-use Rattle.print.proofs.text.words.Statement.{statement}
-use Rattle.print.proofs.text.words.Tie as tie
+use Rattle.page.proofs.text.words.Statement.{statement}
+use Rattle.page.proofs.text.words.Tie as tie
 
 abbrev Inv-loop : tie.InvT-loop
 Inv-loop line₀ used text n i₀ line i = (i ≤ n) × (length line ≡ length line₀)

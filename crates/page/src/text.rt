@@ -1,7 +1,5 @@
 // Text in a lent buffer of which some bytes are used: each function puts its text behind them, as far as
 // there is room, and answers with how many bytes are used then.
-use level::THRESHOLDS;
-
 pub fn words(line: &mut [u8], used: usize, text: &[u8]) -> usize {
     if line.len() <= used {
         return used;
@@ -40,30 +38,19 @@ pub fn spaced_signed(line: &mut [u8], used: usize, x: i64) -> usize {
     signed(line, space, x)
 }
 
-// A number for each threshold, each after a space.
-pub fn numbers(line: &mut [u8], used: usize, xs: &[u64; THRESHOLDS]) -> usize {
-    let mut end = used;
-    let mut j = 0;
-    while j < THRESHOLDS {
-        end = spaced(line, end, xs[j]);
-        j += 1;
-    }
-    end
-}
-
-// Bytes in hexadecimal, two digits each.
+// Bytes in hexadecimal, two digits each, in lower case.
 pub fn hexadecimal(line: &mut [u8], used: usize, bytes: &[u8]) -> usize {
     let mut end = used;
     let mut i = 0;
     while i < bytes.len() {
-        let digits = [digit(bytes[i] / 16), digit(bytes[i] % 16)];
+        let digits = [digit(bytes[i] / 16), digit(bytes[i])];
         end = words(line, end, &digits);
         i += 1;
     }
     end
 }
 
-// A number below 16 as a digit; any other by its last digit.
+// The last digit of a number.
 fn digit(x: u8) -> u8 {
     let value = x % 16;
     if value < 10 {

@@ -3,8 +3,8 @@ use borrow.Author.Needs.{needs}
 use mathlib.Core.Path.{_≡_}
 use Prim.Native.Nat.{_-_}
 use lib.ListN.{length}
-use Rattle.print.proofs.text.numbers.Statement.{statement}
-use Rattle.print.proofs.text.numbers.Tie as tie
+use Rattle.print.proofs.numbers.Statement.{statement}
+use Rattle.print.proofs.numbers.Tie as tie
 
 abbrev Inv-loop : tie.InvT-loop
 Inv-loop line₀ used xs end₀ j₀ line end j = length line ≡ length line₀

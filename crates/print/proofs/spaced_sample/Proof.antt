@@ -1,8 +1,8 @@
 -- Every number of 16 bits fits 64.
 use borrow.Author.Needs.{needs}
 use Rattle.signed.proofs.Casts.{widens}
-use Rattle.print.proofs.lines.spaced_sample.Statement.{statement}
-use Rattle.print.proofs.lines.spaced_sample.Tie as tie
+use Rattle.print.proofs.spaced_sample.Statement.{statement}
+use Rattle.print.proofs.spaced_sample.Tie as tie
 
 cast-spaced-signed : tie.Need-cast-spaced-signed
 cast-spaced-signed c = widens tt (c .before .before .fits .x)
