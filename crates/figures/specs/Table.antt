@@ -283,27 +283,6 @@ table =
     ∷ checked highCount 1 8
     ∷ checked usedNext 1 9
     ∷ checked usedLast 1 9
-    -- blocks made: byte for byte, with a check word of 0, at another rate, full, over another block, and ending at 2^48 with one sample and with 248
-    ∷ made 1 0 (pos 32767 ∷ []) (lent 512) 0 exampleBytes
-    ∷ made 3 6618611909121 (pos 258 ∷ minus 2 ∷ []) (lent 512) 0 plainBytes
-    ∷ made 1 0 samplesOfThree (lent 512) 0 soundBlock
-    ∷ made 2 0 samplesOfThree (lent 512) 0 otherCode
-    ∷ made 1 0 (replicate 248 (pos 1)) (lent 512) 0 fullBlock
-    ∷ made 1 40 (replicate 20 (minus 32768)) fullBlock 0 twenty
-    ∷ made 1 (2 ^ 48 - 1) (pos 1 ∷ []) (lent 512) 0 lastBlock
-    ∷ made 1 (2 ^ 48 - 248) (replicate 248 (pos 1)) (lent 512) 0 lastFull
-    -- and refused: 1 before 4 and 18, 4 before 18, and 18 at each of its edges, where the sum would wrap at 2^64 too
-    ∷ made 0 0 [] (lent 3) 1 (lent 3)
-    ∷ made 4 0 (pos 1 ∷ []) (lent 512) 1 (lent 512)
-    ∷ made 257 0 (pos 1 ∷ []) (lent 512) 1 (lent 512)
-    ∷ made 1 0 [] (lent 511) 4 (lent 511)
-    ∷ made 1 0 (pos 1 ∷ []) (lent 513) 4 (lent 513)
-    ∷ made 1 0 (pos 1 ∷ []) [] 4 []
-    ∷ made 1 0 [] (lent 512) 18 (lent 512)
-    ∷ made 1 0 (replicate 249 (pos 1)) (lent 512) 18 (lent 512)
-    ∷ made 1 (2 ^ 48) (pos 1 ∷ []) (lent 512) 18 (lent 512)
-    ∷ made 1 (2 ^ 48 - 247) (replicate 248 (pos 1)) (lent 512) 18 (lent 512)
-    ∷ made 1 (2 ^ 64 - 1) (pos 1 ∷ []) (lent 512) 18 (lent 512)
     -- Q reaches 2^30 exactly: ≥ against >
     ∷ sampled (usualSetting 1) (pos 9126 ∷ pos 11705 ∷ []) 16052775414 (2 ^ 30) (replicate 5 2 ++ (1 ∷ 1 ∷ replicate 8 0)) 16
     -- two crossings: the highest is used
@@ -369,4 +348,25 @@ table =
     ∷ needsTwo (usualSetting 1) (chunk (replicate 44 (pos 5215) ++ (pos 5243 ∷ pos 5256 ∷ pos 5205 ∷ pos 5187 ∷ [])) ∷ []) 103555
     -- D less one is too small
     ∷ needsD (usualSetting 1) (replicate 500 (pos 1) ++ (pos 31417 ∷ [])) 1175933558
+    -- blocks made: byte for byte, with a check word of 0, at another rate, full, over another block, and ending at 2^48 with one sample and with 248
+    ∷ made 1 0 (pos 32767 ∷ []) (lent 512) 0 exampleBytes
+    ∷ made 3 6618611909121 (pos 258 ∷ minus 2 ∷ []) (lent 512) 0 plainBytes
+    ∷ made 1 0 samplesOfThree (lent 512) 0 soundBlock
+    ∷ made 2 0 samplesOfThree (lent 512) 0 otherCode
+    ∷ made 1 0 (replicate 248 (pos 1)) (lent 512) 0 fullBlock
+    ∷ made 1 40 (replicate 20 (minus 32768)) fullBlock 0 twenty
+    ∷ made 1 (2 ^ 48 - 1) (pos 1 ∷ []) (lent 512) 0 lastBlock
+    ∷ made 1 (2 ^ 48 - 248) (replicate 248 (pos 1)) (lent 512) 0 lastFull
+    -- and refused: 1 before 4 and 18, 4 before 18, and 18 at each of its edges, where the sum would wrap at 2^64 too
+    ∷ made 0 0 [] (lent 3) 1 (lent 3)
+    ∷ made 4 0 (pos 1 ∷ []) (lent 512) 1 (lent 512)
+    ∷ made 257 0 (pos 1 ∷ []) (lent 512) 1 (lent 512)
+    ∷ made 1 0 [] (lent 511) 4 (lent 511)
+    ∷ made 1 0 (pos 1 ∷ []) (lent 513) 4 (lent 513)
+    ∷ made 1 0 (pos 1 ∷ []) [] 4 []
+    ∷ made 1 0 [] (lent 512) 18 (lent 512)
+    ∷ made 1 0 (replicate 249 (pos 1)) (lent 512) 18 (lent 512)
+    ∷ made 1 (2 ^ 48) (pos 1 ∷ []) (lent 512) 18 (lent 512)
+    ∷ made 1 (2 ^ 48 - 247) (replicate 248 (pos 1)) (lent 512) 18 (lent 512)
+    ∷ made 1 (2 ^ 64 - 1) (pos 1 ∷ []) (lent 512) 18 (lent 512)
     ∷ []
