@@ -250,7 +250,7 @@ same-samples (call ∷ calls) m e f g =
 -- ---- from the opening on
 
 -- neither 1 nor 17 applies to a setting that opening accepts
-accepted-setting : (c : Setting) → openCall c .number ≡ 0 → (isNamed (c .code) ≡ true) × (wrongMargin (c .margin .0) ≡ false)
+pub accepted-setting : (c : Setting) → openCall c .number ≡ 0 → (isNamed (c .code) ≡ true) × (wrongMargin (c .margin .0) ≡ false)
 unfolding NoneApplies openRules unnamedCode
 accepted-setting c z = let n = open-given c .0 .accepted .0 z in (not-false _ (n .0), n .1 .0)
 

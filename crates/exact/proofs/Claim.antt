@@ -6,12 +6,14 @@ use Rattle.sample.proofs.Thresholds.{worked-out}
 use Rattle.meter.specs.Opened.{Fresh}
 use Rattle.meter.proofs.Laws.{open-given, chunk-given, block-given, report-given, refused-chunk, refused-block, report-meter, refused-report, refused-open, zeros-chunk, zeros-block, zeros-report, opened, fresh-fields, factor-never-above, percent-never-smaller, block-taken, block-samples, chunk-samples, empty-chunk}
 use Rattle.meter.proofs.Outcome.{answered}
-use Rattle.exact.specs.Demands.{Demand1, Demand2, Claim}
+use Rattle.exact.specs.Claim.{Claim}
+use Rattle.exact.specs.Demands.{Demand1, Demand2}
 use Rattle.exact.proofs.Crossings.{highest-lowest, unaffected}
 use Rattle.exact.proofs.Demand3.{demand3}
 use Rattle.exact.proofs.Lost.{nothing-lost, measured}
 use Rattle.exact.proofs.Margins.{any-margin}
 use Rattle.exact.proofs.NoOffset.{no-offset}
+use Rattle.exact.proofs.TwoCards.{two-cards}
 use Rattle.exact.proofs.Written.{reads-back}
 
 demand1 : Demand1
@@ -57,4 +59,4 @@ demand2 =
     }
 
 pub claim : Claim
-claim = record { demand1 = demand1; demand2 = demand2; demand3 = demand3 }
+claim = record { demand1 = demand1; demand2 = demand2; demand3 = demand3; two-cards = two-cards }

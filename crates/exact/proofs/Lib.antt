@@ -1,3 +1,4 @@
+mod Ahead
 mod Calls
 pub mod Claim
 pub mod Crossings
@@ -8,4 +9,5 @@ pub mod Lost
 pub mod Margins
 pub mod NoOffset
 pub mod Tied
+pub mod TwoCards
 mod Written

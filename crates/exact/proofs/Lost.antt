@@ -50,7 +50,7 @@ after-is (call ∷ calls) m =
     go true rest = ap (λ (s : State). record { setting = m .setting; state = s }) (sym (samples-append (countingOf (m .setting)) (broughtBy call) rest (m .state)))
     go false rest = refl
 
-exactly-is : (calls : List Call) (e : E) → exactly e calls ≡ takeAll e (took e calls)
+pub exactly-is : (calls : List Call) (e : E) → exactly e calls ≡ takeAll e (took e calls)
 unfolding exactly took fed takeAll
 exactly-is [] e = refl
 exactly-is (call ∷ calls) e = exactly-is calls (fed e call) ∙ go (accepts e call) (took (fed e call) calls)

@@ -1,6 +1,5 @@
--- The whole claim: the customer's three demands, each a record with a field for each clause of its sentence, and `Claim`, that all three hold. What
--- only the check of the code can show stands as a comment that names the contracts. What is in quotes are his words; his "document 01" is the scope
--- that docs/METHOD.md states, as his requests amend it.
+-- The customer's three demands, each a record with a field for each clause of its sentence. What only the check of the code can show stands as a comment
+-- that names the contracts. What is in quotes are his words; his "document 01" is the scope that docs/METHOD.md states, as his requests amend it.
 use mathlib.Core.Bool.{Bool, true, false}
 use mathlib.Core.List.{List, [], _∷_}
 use mathlib.Core.Logic.{_↔_}
@@ -205,10 +204,3 @@ pub record Demand3 (c : Setting) (calls : List Call) : Type 0 where
   pub report : Answered (meterAfter c calls) (reportAfter c calls .number) (reportAfter c calls .report)
   -- "and where it gives levels", they keep to E's
   pub levels : reportAfter c calls .number ≡ 0 → LevelBounds (reportAfter c calls .report) (exactAfter c calls) (dOf c)
-
--- ---- the claim
-
-pub record Claim : Type 0 where
-  pub demand1 : Demand1
-  pub demand2 : Demand2
-  pub demand3 : (c : Setting) (calls : List Call) → TypedOffset c → Opens c → Typed calls → Demand3 c calls

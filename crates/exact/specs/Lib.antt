@@ -1,7 +1,9 @@
 pub mod Calls
+pub mod Claim
 pub mod Demands
 pub mod Envelope
 pub mod Exact
 pub mod Fractions
 pub mod Lists
 pub mod NoOffset
+pub mod TwoCards

@@ -2,8 +2,8 @@
 use mathlib.Core.Bool.{Bool, true, _&&_, and-eq-true-iff}
 use mathlib.Core.List.{List, [], _∷_}
 use mathlib.Core.Option.{none, some}
-use mathlib.Core.Path.{_≡_, sym, _∙_}
-use Prim.Native.Nat.{ℕ, _+_, _-_, _*_, _^_}
+use mathlib.Core.Path.{_≡_, refl, sym, _∙_}
+use Prim.Native.Nat.{ℕ, zero, suc, _+_, _-_, _*_, _^_, _<_}
 use native.Mathlib.Omega.{arith}
 use borrow.Author.Tests.{ne-eqb}
 use lib.Dec.{eqb}
@@ -16,14 +16,18 @@ use Rattle.block.specs.Written.{writeCall}
 use Rattle.percent.specs.Percent.{whole, notAbove, percentOf}
 use Rattle.percent.proofs.Laws.{percent-at, percent-only}
 use Rattle.sample.specs.Envelope.{threshold}
+use Rattle.setting.specs.declared.Setting.{Setting}
 use Rattle.meter.specs.declared.Meter.{Meter}
 use Rattle.meter.specs.Calls.{openCall, chunkCall, reportCall}
 use Rattle.meter.proofs.Laws.{percent-of}
-use Rattle.exact.specs.Demands.{countAt}
+use Rattle.exact.specs.Calls.{Call}
+use Rattle.exact.specs.Demands.{takenFrom, countAt}
 use Rattle.exact.specs.Envelope.{envelopeAfter, exactEnvelopeAfter}
+use Rattle.exact.specs.Exact.{distance}
+use Rattle.exact.specs.TwoCards.{Within, sizeAt, Alike, OneLine, raised, meterCount}
 use Rattle.figures.specs.Meters.{countsOf}
-use Rattle.figures.specs.Rows.{Shown, nothing, Values, Row, level, noLevel, percent, sampled, reported, refused, opened, handedIn, answered, checked, made, played, counted, needsTwo, needsD, sampledMeter, meterFrom, exactFrom, numbersOf, shownBy, valuesOf, Holds, All}
-use Rattle.figures.proofs.Tests.{Test, via, _and_, is, isNot, unless, atMost, itself, _on_, Equality, sameNumber, sameInteger, sameAnswer, sameList, sameOption}
+use Rattle.figures.specs.Rows.{Shown, nothing, Values, Row, level, noLevel, percent, sampled, reported, refused, opened, handedIn, answered, checked, made, played, counted, needsTwo, cards, needsD, sampledMeter, meterFrom, exactFrom, numbersOf, shownBy, valuesOf, Holds, All}
+use Rattle.figures.proofs.Tests.{Test, via, _and_, always, never, is, isNot, unless, atMost, itself, _on_, Equality, sameNumber, sameInteger, sameAnswer, sameList, sameOption}
 
 -- the percentage of a factor, by its law: two logarithms beside lev(10000)
 abbrev percentage : (F : ℤ) (T : ℕ) → Test (percentOf F ≡ T)
@@ -75,6 +79,31 @@ sameValues x y =
     on sameList sameNumber (x .a) (y .a)
     on sameList sameNumber (x .h) (y .h)
 
+-- that two cards are on one line, by their samples in pairs: one pair, and the rest
+pub alike-both : {d : ℕ} {o : ℤ} {x x′ : ℤ} {xs xs′ : List ℤ} → Within d (distance o x) (distance o x′) → Alike d o xs xs′ → Alike d o (x ∷ xs) (x′ ∷ xs′)
+alike-both {d} {o} {x} {x′} {xs} {xs′} w s = record { equally-many = omega (arith, s .equally-many); sizes = at-place }
+  where
+    at-place : (i : ℕ) → i < length (x ∷ xs) → Within d (sizeAt o (x ∷ xs) i) (sizeAt o (x′ ∷ xs′) i)
+    at-place zero l = w
+    at-place (suc i) l = s .sizes i (omega arith)
+
+unfoldable pub alike : (d : ℕ) (o : ℤ) (xs xs′ : List ℤ) → Test (Alike d o xs xs′)
+alike d o [] [] = always (record { equally-many = refl; sizes = λ i l. absurd (omega arith) })
+alike d o [] (x′ ∷ xs′) = never
+alike d o (x ∷ xs) [] = never
+alike d o (x ∷ xs) (x′ ∷ xs′) =
+    via (λ h. alike-both (h .0) (h .1))
+    ((atMost (distance o x) (distance o x′ + d) and atMost (distance o x′) (distance o x + d)) and alike d o xs xs′)
+
+abbrev oneLine : (d : ℕ) (c c′ : Setting) (calls calls′ : List Call) → Test (OneLine d c c′ calls calls′)
+oneLine d c c′ calls calls′ =
+    via (λ h. record { opens = h .0; opens′ = h .1 .0; rate = h .1 .1 .0; offset = h .1 .1 .1 .0; samples = h .1 .1 .1 .1 })
+    (sameNumber (openCall c .number) 0
+    and sameNumber (openCall c′ .number) 0
+    and sameNumber (c′ .code) (c .code)
+    and sameInteger (c′ .offset) (c .offset)
+    and alike d (c .offset) (takenFrom c calls) (takenFrom c′ calls′))
+
 -- the test of what a row says
 unfoldable pub testOf : (r : Row) → Test (Holds r)
 unfolding Holds
@@ -105,6 +134,12 @@ testOf (needsTwo c calls A) =
     let e = exactFrom c calls in
     sameInteger (r .levels .active .0) (pos A)
     and atMost (2 ^ (A + 1) * countAt e (threshold (r .levels .lower)) ^ 4096) (e .sq ^ 4096)
+testOf (cards d c c′ calls calls′ j t u a) =
+    via (λ h. (h .0, h .1 .0, h .1 .1 .0, h .1 .1 .1))
+    (oneLine d c c′ calls calls′
+    and sameNumber (raised d c j) t
+    and sameNumber (countAt (exactFrom c calls) t) u
+    and sameNumber (meterCount c′ calls′ j) a)
 testOf (needsD c xs Q) =
     let r = rowOf (c .code) in
     let o = c .offset in

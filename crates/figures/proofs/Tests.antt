@@ -27,8 +27,11 @@ s and t =
       shows = λ e. let h = and-eq-true-iff (s .passes) (t .passes) .0 e in (s .shows (h .0), t .shows (h .1));
     }
 
--- what does not hold has a test that never passes
-abbrev never : {P : Type 0} → Test P
+-- what holds has a test that always passes, and what does not hold one that never does
+abbrev pub always : {P : Type 0} → P → Test P
+always p = record { passes = true; shows = λ e. p }
+
+abbrev pub never : {P : Type 0} → Test P
 never = record { passes = false; shows = λ e. absurd (false≢true e) }
 
 -- a test that comes out true, or false; and one that is only asked where another comes out false
@@ -48,7 +51,7 @@ atMost m n = record { passes = leb m n; shows = leb-true m n }
 
 -- tests of equality: a function is itself, and equal functions on equal arguments are equal
 abbrev pub itself : {A : Type 0} (f : A) → Test (f ≡ f)
-itself f = record { passes = true; shows = λ e. refl }
+itself f = always refl
 
 abbrev pub _on_ : {A B : Type 0} {f g : A → B} {x y : A} → Test (f ≡ g) → Test (x ≡ y) → Test (f x ≡ g y)
 s on t = via (λ h i. h .0 i (h .1 i)) (s and t)

@@ -21,6 +21,7 @@ use Rattle.exact.specs.Demands.{meterAfter, exactAfter, countAt}
 use Rattle.exact.specs.Envelope.{envelopeAfter, exactEnvelopeAfter}
 use Rattle.exact.specs.Exact.{E}
 use Rattle.exact.specs.Lists.{called}
+use Rattle.exact.specs.TwoCards.{OneLine, raised, meterCount}
 use Rattle.figures.specs.Meters.{countsOf}
 
 -- the levels of a report, its thresholds, its percentage, and the margin with its mark
@@ -82,6 +83,9 @@ pub data Row : Type 0 where
   counted : Setting → List Call → (c u : ℕ) → Row
   -- calls after an opening, after which A is reported and one step more than A does not exceed E's exact level at the lower threshold
   needsTwo : Setting → List Call → (A : ℕ) → Row
+  -- two cards on one line, at most d apart, the first with the first of the settings and of the lists of calls: c_j raised is t, E's count for the first
+  -- card there is u, and the second meter's count at c_j is a
+  cards : (d : ℕ) (c c′ : Setting) (calls calls′ : List Call) (j t u a : ℕ) → Row
   -- samples from a fresh start, after which the envelope is Q, and E's q is not below Q + (D − 1)
   needsD : Setting → (xs : List ℤ) (Q : ℕ) → Row
 
@@ -152,6 +156,8 @@ Holds (needsTwo c calls A) =
     let r = reportCall (meterFrom c calls) .report in
     let e = exactFrom c calls in
     (r .levels .active .0 ≡ pos A) × (2 ^ (A + 1) * countAt e (threshold (r .levels .lower)) ^ 4096 ≤ e .sq ^ 4096)
+Holds (cards d c c′ calls calls′ j t u a) =
+    OneLine d c c′ calls calls′ × (raised d c j ≡ t) × (countAt (exactFrom c calls) t ≡ u) × (meterCount c′ calls′ j ≡ a)
 Holds (needsD c xs Q) =
     let r = rowOf (c .code) in
     let o = c .offset in

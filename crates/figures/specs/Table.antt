@@ -4,14 +4,16 @@ use mathlib.Core.List.{List, [], _∷_, _++_}
 use Prim.Native.Nat.{ℕ, _+_, _-_, _*_, _^_}
 use lib.IntN.{ℤ, pos, negsuc}
 use lib.ListN.{replicate}
+use Rattle.level.specs.Types.{stepsOf}
 use Rattle.sample.specs.Envelope.{threshold}
+use Rattle.setting.specs.declared.Setting.{Setting}
 use Rattle.setting.specs.Settings.{usualSetting}
 use Rattle.meter.specs.declared.Meter.{Meter}
 use Rattle.meter.specs.Calls.{openCall}
 use Rattle.exact.specs.Calls.{Call, chunk, block}
 use Rattle.figures.specs.Blocks.{samplesOfThree, soundBlock, fullBlock, endBlock, twenty, lastBlock, lastFull, exampleBytes, plainBytes, lent, threeBytes, otherSum, highSum, otherWeighted, otherKind, otherCode, noCount, highCount, usedNext, usedLast}
 use Rattle.figures.specs.Meters.{offsetBy, marginBy, freshAt, given, plain, withCode, withOffset, withMargin, withN, withS, withSq, withP, withQ, withA, withH}
-use Rattle.figures.specs.Rows.{Values, Row, level, noLevel, percent, sampled, reported, refused, opened, handedIn, answered, checked, made, played, counted, needsTwo, needsD}
+use Rattle.figures.specs.Rows.{Values, Row, level, noLevel, percent, sampled, reported, refused, opened, handedIn, answered, checked, made, played, counted, needsTwo, cards, needsD}
 
 -- x for the first k of fifteen, 0 for the others
 abbrev first : (k x : ℕ) → List ℕ
@@ -57,6 +59,25 @@ ran M =
       a = 260 ∷ 260 ∷ 260 ∷ 260 ∷ 260 ∷ 259 ∷ 258 ∷ 257 ∷ 256 ∷ 253 ∷ 249 ∷ 242 ∷ 229 ∷ 197 ∷ 146 ∷ [];
       h = 0 ∷ 0 ∷ 0 ∷ 0 ∷ 0 ∷ 0 ∷ 0 ∷ 0 ∷ 65 ∷ 82 ∷ 99 ∷ 117 ∷ 136 ∷ 139 ∷ 139 ∷ [];
     }
+
+-- the same number of samples, at most 3 apart in size at the offset 300, in two chunks: each as far from 300 on the other side, or nearly so, but for the
+-- twenty, which have no other side
+unfoldable pub mirrored : List Call
+mirrored =
+    chunk (replicate 30 (minus 8403) ++ replicate 10 (pos 20597) ++ replicate 20 (minus 32765))
+    ∷ chunk (replicate 170 (pos 603) ++ replicate 30 (pos 297))
+    ∷ []
+
+abbrev otherCard : Setting
+otherCard = record { code = 1; offset = pos 300; margin = stepsOf (pos 1) }
+
+-- three samples after which Q is one unit under c_6, and q is not
+abbrev justUnder : List Call
+justUnder = chunk (pos 314 ∷ pos 956 ∷ pos 26423 ∷ []) ∷ []
+
+-- a constant for so many samples
+abbrev constant : (x : ℤ) (k : ℕ) → List Call
+constant x k = chunk (replicate k x) ∷ []
 
 -- calls to a fresh meter of code 1: the faults from 3 to 10, then a sound block, the same once more, and the longest chunk
 unfoldable pub faults : List Call
@@ -348,6 +369,17 @@ table =
     ∷ needsTwo (usualSetting 1) (chunk (replicate 44 (pos 5215) ++ (pos 5243 ∷ pos 5256 ∷ pos 5205 ∷ pos 5187 ∷ [])) ∷ []) 103555
     -- D less one is too small
     ∷ needsD (usualSetting 1) (replicate 500 (pos 1) ++ (pos 31417 ∷ [])) 1175933558
+    -- two cards on one line, cut differently, of which the first has a refused call, and the second another margin
+    ∷ cards 3 (offsetBy 1 (pos 300)) otherCard run mirrored 12 (4099 * 2 ^ 24 + 43) 228 229
+    -- d − 1 intervals would not do: at c_0 raised by D alone E counts 6 for the first, and the second meter counts 0
+    ∷ cards 1 (usualSetting 1) (usualSetting 1) (constant (pos 2) 40) (constant (pos 1) 40) 0 (2 ^ 25 + 43) 0 0
+    ∷ counted (usualSetting 1) (constant (pos 2) 40) (2 ^ 24 + 43) 6
+    -- nor would it without D, of equal samples
+    ∷ cards 0 (usualSetting 1) (usualSetting 1) justUnder justUnder 6 (2 ^ 30 + 43) 0 0
+    ∷ counted (usualSetting 1) justUnder (2 ^ 30) 1
+    -- nor, between the meters alone, where 2^j is d − 1: the first counts 3 at c_1, and the second 0 at c_0
+    ∷ cards 2 (usualSetting 1) (usualSetting 1) (constant (pos 3) 50) (constant (pos 1) 50) 0 (3 * 2 ^ 24 + 43) 0 0
+    ∷ sampled (usualSetting 1) (replicate 50 (pos 3)) 45772777 35083161 (26 ∷ 3 ∷ replicate 13 0) 15
     -- blocks made: byte for byte, with a check word of 0, at another rate, full, over another block, and ending at 2^48 with one sample and with 248
     ∷ made 1 0 (pos 32767 ∷ []) (lent 512) 0 exampleBytes
     ∷ made 3 6618611909121 (pos 258 ∷ minus 2 ∷ []) (lent 512) 0 plainBytes

@@ -1,0 +1,113 @@
+-- Two cards on one line: `two-cards`. E orders the counts of its two runs, at thresholds that are d intervals apart; demand 3 puts each meter's count
+-- between E's at the threshold and at the one raised by D.
+use mathlib.Core.List.{List}
+use mathlib.Core.Path.{_≡_, sym, ap, ap₂, subst, subst₂, _∙_}
+use Prim.Native.Nat.{ℕ, suc, _+_, _*_, _^_, _≤_, _<_}
+use native.Mathlib.Nat.{le-trans, mul-le-mul-right}
+use native.Mathlib.Numerals.{add-one}
+use native.Mathlib.Omega.{arith}
+use lib.IntN.{ℤ}
+use lib.Pow.{pow-add}
+use mir.Syntax.{w16}
+use mir.Val.{SFits}
+use Rattle.rate.specs.Rates.{Keeps, rowOf}
+use Rattle.rate.proofs.Laws.{row-keeps}
+use Rattle.setting.specs.declared.Setting.{Setting}
+use Rattle.setting.specs.Settings.{dOf}
+use Rattle.level.specs.Types.{thresholds}
+use Rattle.sample.specs.Envelope.{interval, threshold, nextThreshold, workedOut}
+use Rattle.sample.proofs.Thresholds.{worked-out}
+use Rattle.exact.specs.Calls.{Call, Typed}
+use Rattle.exact.specs.Demands.{TypedOffset, Opens, exactAt, exactAfter, takenFrom, countAt, Demand3}
+use Rattle.exact.specs.Exact.{E, start, takeAll}
+use Rattle.exact.specs.TwoCards.{Alike, OneLine, raised, meterCount, Compared, TwoCards}
+use Rattle.exact.proofs.Ahead.{ahead}
+use Rattle.exact.proofs.Calls.{accepted-setting}
+use Rattle.exact.proofs.Demand3.{demand3}
+use Rattle.exact.proofs.Lost.{exactly-is}
+
+-- ---- figures
+
+row : (c : Setting) → Opens c → Keeps (rowOf (c .code))
+row c z = row-keeps (c .code) (accepted-setting c z .0)
+
+-- D is far below an interval
+small-D : (c : Setting) → Opens c → dOf c ≤ interval
+unfolding dOf
+small-D c z = let r = row c z in r .d-rule .smallest interval (omega (arith, mul-le-mul-right interval (r .k-low)))
+
+-- c_j is 2^j intervals, and each twice the one before; so where 2^j is above d, the next is d intervals higher and more, by an interval or more
+in-intervals : (j : ℕ) → threshold j ≡ 2 ^ j * interval
+unfolding threshold
+in-intervals j = pow-add 2 j 24
+
+next-threshold : (j : ℕ) → threshold (j + 1) ≡ 2 * threshold j
+unfolding workedOut
+next-threshold j = ap threshold (add-one j) ∙ sym (worked-out (suc j)) ∙ ap nextThreshold (worked-out j)
+
+room : (d j : ℕ) → d < 2 ^ j → threshold j + d * interval + interval ≤ threshold (j + 1)
+room d j h = omega (arith, next-threshold j, in-intervals j, mul-le-mul-right interval h)
+
+-- ---- the counts
+
+-- E after calls is what the samples taken lead to
+exact-is : (c : Setting) (calls : List Call) → Demand3 c calls → exactAfter c calls ≡ takeAll (exactAt c) (takenFrom c calls)
+exact-is c calls D = exactly-is calls (exactAt c) ∙ ap (takeAll (exactAt c)) (sym (D .same-samples))
+
+module _ (d : ℕ) (c c′ : Setting) (calls calls′ : List Call) (l : OneLine d c c′ calls calls′) (first : Demand3 c calls) (second : Demand3 c′ calls′) where
+  same-D : dOf c′ ≡ dOf c
+  unfolding dOf
+  same-D = ap (λ (k : ℕ). rowOf k .d) (l .rate)
+
+  same-start : exactAt c′ ≡ exactAt c
+  same-start = ap₂ start (l .rate) (l .offset)
+
+  exact-order : (t t′ : ℕ) → t′ + d * interval ≤ t → countAt (exactAfter c calls) t ≤ countAt (exactAfter c′ calls′) t′
+  unfolding start
+  exact-order t t′ k =
+      subst₂ (λ (e e′ : E). countAt e t ≤ countAt e′ t′)
+      (sym (exact-is c calls first))
+      (sym (exact-is c′ calls′ second ∙ ap (λ (e : E). takeAll e (takenFrom c′ calls′)) same-start))
+      (ahead d (c .code) (rowOf (c .code) .k) (rowOf (c .code) .i) (c .offset) (row c (l .opens) .k-high) (takenFrom c calls) (takenFrom c′ calls′) (l .samples) t t′ k)
+
+  compared : Compared d c c′ calls calls′
+  compared =
+      record {
+        never-above = above;
+        exceeds-by = λ j k. omega (arith, first .at-most j k, above j k);
+        next-never-above = λ j k h. le-trans (first .at-most (j + 1) k)
+            (le-trans (exact-order (threshold (j + 1)) (threshold j + dOf c′) (omega (arith, room d j (omega (arith, h)), small-D c′ (l .opens′)))) (second .at-least j (omega arith)));
+      }
+    where
+      above : (j : ℕ) → j < thresholds → countAt (exactAfter c calls) (raised d c j) ≤ meterCount c′ calls′ j
+      above j k = le-trans (exact-order (raised d c j) (threshold j + dOf c′) (omega (arith, same-D))) (second .at-least j k)
+
+-- ---- exchanged
+
+alike-exchanged : {d : ℕ} {o : ℤ} {xs xs′ : List ℤ} → Alike d o xs xs′ → Alike d o xs′ xs
+alike-exchanged s =
+    record {
+      equally-many = sym (s .equally-many);
+      sizes = λ i l. let w = s .sizes i (omega (arith, s .equally-many)) in (w .1, w .0);
+    }
+
+exchange : (d : ℕ) (c c′ : Setting) (calls calls′ : List Call) → OneLine d c c′ calls calls′ → OneLine d c′ c calls′ calls
+exchange d c c′ calls calls′ l =
+    record {
+      opens = l .opens′;
+      opens′ = l .opens;
+      rate = sym (l .rate);
+      offset = sym (l .offset);
+      samples = subst (λ (o : ℤ). Alike d o (takenFrom c′ calls′) (takenFrom c calls)) (sym (l .offset))
+          (alike-exchanged (l .samples));
+    }
+
+pub two-cards : (d : ℕ) (c c′ : Setting) (calls calls′ : List Call) → TypedOffset c → Typed calls → Typed calls′ → OneLine d c c′ calls calls′
+    → TwoCards d c c′ calls calls′
+two-cards d c c′ calls calls′ t f f′ l =
+    let first = demand3 c calls t (l .opens) f in
+    let second = demand3 c′ calls′ (subst (SFits w16) (sym (l .offset)) t) (l .opens′) f′ in
+    record {
+      first = compared d c c′ calls calls′ l first second;
+      exchanged = compared d c′ c calls′ calls (exchange d c c′ calls calls′ l) second first;
+    }

@@ -1,0 +1,64 @@
+-- Two cards on one line: METHOD.md, "Two cards on one line". This is the customer's request L7, how much converter noise can move a count. What is in
+-- quotes are his words.
+use mathlib.Core.List.{List}
+use mathlib.Core.Path.{_≡_}
+use Prim.Native.Nat.{ℕ, _+_, _-_, _*_, _^_, _≤_, _<_}
+use lib.IntN.{ℤ, pos}
+use lib.ListN.{getD, length}
+use Rattle.level.specs.Types.{thresholds, activity}
+use Rattle.setting.specs.declared.Setting.{Setting}
+use Rattle.setting.specs.Settings.{dOf}
+use Rattle.sample.specs.Envelope.{interval, threshold}
+use Rattle.exact.specs.Calls.{Call}
+use Rattle.exact.specs.Demands.{Opens, meterAfter, exactAfter, takenFrom, countAt}
+use Rattle.exact.specs.Exact.{distance}
+
+-- ---- the cards: "two sample sequences of equal length at one rate and offset, each given in accepted chunk or block calls to a fresh meter"
+
+-- two numbers differ by at most d
+abbrev pub Within : (d m n : ℕ) → Type 0
+Within d m n = (m ≤ n + d) × (n ≤ m + d)
+
+-- the size |x − o| of the i-th sample
+abbrev pub sizeAt : (o : ℤ) → List ℤ → (i : ℕ) → ℕ
+sizeAt o xs i = distance o (getD xs i (pos 0))
+
+-- samples that are equally many, and "whose rectified values (offset taken off first) differ by at most d intervals at each sample"
+pub record Alike (d : ℕ) (o : ℤ) (xs xs′ : List ℤ) : Type 0 where
+  pub equally-many : length xs ≡ length xs′
+  pub sizes : (i : ℕ) → i < length xs → Within d (sizeAt o xs i) (sizeAt o xs′ i)
+
+-- the settings and the calls of two cards. Margins may differ, calls may be cut differently, and some may be refused: the samples are those that were
+-- taken
+pub record OneLine (d : ℕ) (c c′ : Setting) (calls calls′ : List Call) : Type 0 where
+  pub opens : Opens c
+  pub opens′ : Opens c′
+  pub rate : c′ .code ≡ c .code
+  pub offset : c′ .offset ≡ c .offset
+  pub samples : Alike d (c .offset) (takenFrom c calls) (takenFrom c′ calls′)
+
+-- ---- their counts
+
+-- c_j "raised by d intervals and D units"
+abbrev pub raised : (d : ℕ) → Setting → (j : ℕ) → ℕ
+raised d c j = threshold j + d * interval + dOf c
+
+-- the "meter's own count at the plain threshold" c_j
+abbrev pub meterCount : Setting → List Call → (j : ℕ) → ℕ
+meterCount c calls j = activity (meterAfter c calls .state .a) j
+
+-- the counts of the first card, with c and calls, against those of the second
+pub record Compared (d : ℕ) (c c′ : Setting) (calls calls′ : List Call) : Type 0 where
+  -- "E's count for the first card at a threshold raised by d intervals and D units is never above the second meter's own count at the plain threshold"
+  pub never-above : (j : ℕ) → j < thresholds → countAt (exactAfter c calls) (raised d c j) ≤ meterCount c′ calls′ j
+  -- What a field engineer reads from it: the first meter's count exceeds the second's by at most E's own difference for the first card between the plain
+  -- threshold and the raised one, u(c_j) − u(c_j + d·2^24 + D)
+  pub exceeds-by : (j : ℕ) → j < thresholds
+      → meterCount c calls j ≤ meterCount c′ calls′ j + (countAt (exactAfter c calls) (threshold j) - countAt (exactAfter c calls) (raised d c j))
+  -- and from the two meters alone, without E: where 2^j is above d, the first's count at the next threshold is never above the second's at c_j
+  pub next-never-above : (j : ℕ) → j + 1 < thresholds → d < 2 ^ j → meterCount c calls (j + 1) ≤ meterCount c′ calls′ j
+
+-- "and the same with the cards exchanged"
+pub record TwoCards (d : ℕ) (c c′ : Setting) (calls calls′ : List Call) : Type 0 where
+  pub first : Compared d c c′ calls calls′
+  pub exchanged : Compared d c′ c calls′ calls
