@@ -1,20 +1,27 @@
--- E over two lists of samples, at any K, I and offset, where the first's sizes are at most d intervals above the second's. One step of smoothing
--- without rounding, over one denominator, keeps a value at most X above another where what they are fed is so: for p, and then for q. So the first is at a
--- threshold only where the second is at any that is lower by X, and the law about two counters does the rest.
+-- Two lists of samples, at any K, I and offset, where the first's sizes are at most d intervals above the second's. One step of smoothing keeps a value at
+-- most X above another where what they are fed is so: for p, and then for q. That holds without rounding, over one denominator, and with floors, since X
+-- is whole. So the first is at a threshold only where the second is at any that is lower by X, and the law about two counters does the rest: for E, and
+-- for the meter.
 use mathlib.Core.Bool.{true}
 use mathlib.Core.List.{List, [], _∷_}
 use mathlib.Core.Path.{_≡_, ap, subst, _∙_}
-use Prim.Native.Nat.{ℕ, suc, _+_, _*_, _-_, _^_, _≤_, zero-le}
-use native.Mathlib.Nat.{mul-le-mul-right, sub-add-cancel}
+use Prim.Native.Nat.{ℕ, suc, _+_, _*_, _-_, _/_, _^_, _≤_, _<_, zero-le}
+use native.Mathlib.Nat.{div-mul-le-self, lt-div-mul-add, lt-of-mul-lt-mul-right, mul-le-mul-right, sub-add-cancel}
 use native.Mathlib.Omega.{arith}
 use borrow.Author.Tests.{leb-true, le-leb}
+use lib.Dec.{leb, lit<}
 use lib.IntN.{ℤ}
+use lib.ListN.{getD}
+use Rattle.level.specs.Types.{thresholds, activity}
+use Rattle.sample.specs.declared.Counting.{Counting}
+use Rattle.sample.specs.declared.State.{State}
 use Rattle.sample.specs.Activity.{counted, hung}
-use Rattle.sample.specs.Envelope.{interval}
+use Rattle.sample.specs.Envelope.{interval, smooth, size, rectified, threshold}
+use Rattle.sample.specs.Sample.{freshState, summed, counts, hangovers, stateAfterOne, stateAfter}
 use Rattle.sample.proofs.Activity.{Under, under-refl, under-step}
 use Rattle.exact.specs.Exact.{E, startAt, distance, reaches, countNext, hangoverNext, takeOne, takeAll}
 use Rattle.exact.specs.TwoCards.{Alike}
-use Rattle.exact.proofs.Tied.{power-next}
+use Rattle.exact.proofs.Tied.{power-next, both-at}
 
 -- ---- one step
 
@@ -104,3 +111,72 @@ module _ (d code K I : ℕ) (o : ℤ) (kG : K ≤ 2 ^ 20) where
   ahead xs xs′ s t t′ l =
       let none : Moving = record { pn = 0; qn = 0; u = λ c. 0; v = λ c. I; sq = 0 } in
       ahead-all xs xs′ 0 none none (record { p = zero-le; q = zero-le; each = λ r r′ k. under-refl 0 I }) s t t′ l
+
+-- ---- the meter
+
+-- a floor keeps whole numbers as far apart as it finds them
+floors : (G X n n′ : ℕ) → 0 < G → n ≤ n′ + X * G → n / G ≤ n′ / G + X
+floors G X n n′ g h =
+    let low = div-mul-le-self n G in
+    let high : n′ < n′ / G * G + G = lt-div-mul-add g in
+    let s : n / G < n′ / G + X + 1 = lt-of-mul-lt-mul-right G (omega arith) in
+    omega arith
+
+smooth-ahead : (K X v v′ x x′ : ℕ) → K ≤ 2 ^ 20 → v ≤ v′ + X → x ≤ x′ + X → smooth K v x ≤ smooth K v′ x′ + X
+unfolding smooth
+smooth-ahead K X v v′ x x′ kG h k =
+    let R = 2 ^ 20 - K in
+    floors (2 ^ 20) X (v * R + x * K) (v′ * R + x′ * K) (lit< tt)
+    (subst (λ (g : ℕ). v * R + x * K ≤ v′ * R + x′ * K + X * g) (sub-add-cancel kG) (omega (arith, smoothed R K X 1 v v′ x x′ (omega arith) (omega arith))))
+
+-- the same of two measurements, at the meter's thresholds
+pub record Leads (X : ℕ) (m m′ : State) : Type 0 where
+  pub p : m .sums .p ≤ m′ .sums .p + X
+  pub q : m .sums .q ≤ m′ .sums .q + X
+  pub each : (i j : ℕ) → i < thresholds → j < thresholds → threshold j + X ≤ threshold i
+      → Under (activity (m .a) i) (getD (m .h) i 0) (activity (m′ .a) j) (getD (m′ .h) j 0)
+
+module _ (d : ℕ) (by : Counting) (kG : by .k ≤ 2 ^ 20) where
+  -- the envelope, the counts and the hangovers after a sample
+  Q : State → ℤ → ℕ
+  Q m x = smooth (by .k) (m .sums .q) (smooth (by .k) (m .sums .p) (rectified (by .offset) x))
+
+  countOf : State → ℤ → ℕ → ℕ
+  countOf m x j = counted (by .i) (leb (threshold j) (Q m x)) (activity (m .a) j) (getD (m .h) j 0)
+
+  hangs : State → ℤ → ℕ → ℕ
+  hangs m x j = hung (by .i) (leb (threshold j) (Q m x)) (getD (m .h) j 0)
+
+  leads-step : (m m′ : State) (x x′ : ℤ) → distance (by .offset) x ≤ distance (by .offset) x′ + d → Leads (d * interval) m m′
+      → Leads (d * interval) (stateAfterOne by m x) (stateAfterOne by m′ x′)
+  unfolding stateAfterOne summed counts hangovers rectified size distance Q countOf hangs
+  leads-step m m′ x x′ h a =
+      let X = d * interval in
+      let o = by .offset in
+      let P = smooth-ahead (by .k) X (m .sums .p) (m′ .sums .p) (rectified o x) (rectified o x′) kG (a .p) (omega arith) in
+      let q : Q m x ≤ Q m′ x′ + X = smooth-ahead (by .k) X (m .sums .q) (m′ .sums .q) _ _ kG (a .q) P in
+      record {
+        p = P;
+        q = q;
+        each = λ i j k l t. both-at (countOf m x) (hangs m x) (countOf m′ x′) (hangs m′ x′) i j k l
+            (under-step (by .i) _ _ _ _ (leb (threshold i) (Q m x)) (leb (threshold j) (Q m′ x′)) (λ r. le-leb (threshold j) (Q m′ x′) (omega (arith, leb-true (threshold i) (Q m x) r, q, t))) (a .each i j k l t));
+      }
+
+  leads-all : (xs xs′ : List ℤ) (m m′ : State) → Leads (d * interval) m m′ → Alike d (by .offset) xs xs′ → Leads (d * interval) (stateAfter by m xs) (stateAfter by m′ xs′)
+  unfolding stateAfter
+  leads-all [] [] m m′ a s = a
+  leads-all [] (x′ ∷ xs′) m m′ a s = absurd (omega (arith, s .equally-many))
+  leads-all (x ∷ xs) [] m m′ a s = absurd (omega (arith, s .equally-many))
+  leads-all (x ∷ xs) (x′ ∷ xs′) m m′ a s =
+      leads-all xs xs′ _ _ (leads-step m m′ x x′ (omega (arith, s .sizes 0 (omega arith) .0)) a) (alike-rest s)
+
+  pub leads : (xs xs′ : List ℤ) → Alike d (by .offset) xs xs′ → Leads (d * interval) (stateAfter by (freshState (by .i)) xs) (stateAfter by (freshState (by .i)) xs′)
+  unfolding freshState
+  leads xs xs′ s =
+      leads-all xs xs′ _ _
+      (record {
+        p = zero-le;
+        q = zero-le;
+        each = λ i j k l t. both-at (λ r. 0) (λ r. by .i) (λ r. 0) (λ r. by .i) i j k l (under-refl 0 (by .i));
+      })
+      s

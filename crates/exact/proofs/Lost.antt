@@ -10,8 +10,9 @@ use lib.IntN.{ℤ, _+ℤ_, +ℤ-idl, +ℤ-idr, +ℤ-assoc}
 use lib.ListN.{length}
 use Rattle.level.specs.Types.{twoWords}
 use Rattle.level.proofs.Words.{two-of-words}
+use Rattle.rate.specs.Rates.{rowOf}
 use Rattle.setting.specs.declared.Setting.{Setting}
-use Rattle.setting.specs.Settings.{iOf}
+use Rattle.setting.specs.Settings.{kOf, iOf}
 use Rattle.sample.specs.declared.Counting.{Counting}
 use Rattle.sample.specs.declared.State.{State}
 use Rattle.sample.specs.declared.Sums.{Sums}
@@ -64,6 +65,16 @@ pub measured : (c : Setting) (calls : List Call) → Opens c
     → meterAfter c calls ≡ record { setting = c; state = stateAfter (countingOf c) (freshState (iOf c)) (takenFrom c calls) }
 unfolding afterSamples fresh
 measured c calls z = after-is calls _ ∙ ap (λ (m : Meter). afterSamples m (takenFrom c calls)) (opened c z)
+
+-- the measurement of samples at a code and an offset
+unfoldable pub measurement : (code : ℕ) (o : ℤ) → List ℤ → State
+measurement code o xs =
+    let r = rowOf code in
+    stateAfter (record { k = r .k; i = r .i; offset = o }) (freshState (r .i)) xs
+
+pub state-is : (c : Setting) (calls : List Call) → Opens c → meterAfter c calls .state ≡ measurement (c .code) (c .offset) (takenFrom c calls)
+unfolding measurement countingOf kOf iOf
+state-is c calls z = ap (λ (m : Meter). m .state) (measured c calls z)
 
 -- ---- the sums over one list
 

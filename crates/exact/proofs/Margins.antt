@@ -5,30 +5,19 @@ use Prim.Native.Nat.{ℕ}
 use lib.IntN.{ℤ}
 use mir.Syntax.{w16}
 use mir.Val.{SFits}
-use Rattle.rate.specs.Rates.{rowOf}
 use Rattle.setting.specs.declared.Setting.{Setting}
-use Rattle.setting.specs.Settings.{kOf, iOf}
-use Rattle.sample.specs.declared.State.{State}
-use Rattle.sample.specs.Sample.{freshState, stateAfter}
-use Rattle.meter.specs.declared.Meter.{Meter}
-use Rattle.meter.specs.Calls.{countingOf, openCall}
+use Rattle.meter.specs.Calls.{openCall}
 use Rattle.exact.specs.Calls.{Call, Typed}
 use Rattle.exact.specs.Demands.{TypedOffset, Opens, meterAfter, exactAt, SameMeasurement}
 use Rattle.exact.specs.Exact.{start, answersOfE, took}
 use Rattle.exact.proofs.Calls.{good-open, same-answers, same-samples}
-use Rattle.exact.proofs.Lost.{measured}
+use Rattle.exact.proofs.Lost.{measurement, state-is}
 
--- the measurement of calls at a code and an offset
-measurement : (code : ℕ) (o : ℤ) → List Call → State
-measurement code o calls =
-    let r = rowOf code in
-    stateAfter (record { k = r .k; i = r .i; offset = o }) (freshState (r .i)) (took (start code o) calls)
-
-by-code : (c : Setting) (calls : List Call) → TypedOffset c → Opens c → Typed calls → meterAfter c calls .state ≡ measurement (c .code) (c .offset) calls
-unfolding measurement countingOf kOf iOf
+-- over the calls that E took
+by-code : (c : Setting) (calls : List Call) → TypedOffset c → Opens c → Typed calls
+    → meterAfter c calls .state ≡ measurement (c .code) (c .offset) (took (exactAt c) calls)
 by-code c calls t z f =
-    ap (λ (m : Meter). m .state) (measured c calls z)
-    ∙ ap (stateAfter (countingOf c) (freshState (iOf c))) (same-samples calls (openCall c .meter) (exactAt c) f (good-open c t z))
+    state-is c calls z ∙ ap (measurement (c .code) (c .offset)) (same-samples calls (openCall c .meter) (exactAt c) f (good-open c t z))
 
 pub any-margin : (c c′ : Setting) (calls : List Call) → TypedOffset c → Opens c → Opens c′ → Typed calls → c′ .code ≡ c .code → c′ .offset ≡ c .offset
     → SameMeasurement c c′ calls
@@ -39,6 +28,6 @@ any-margin c c′ calls t z z′ f code offset =
           ∙ ap₂ (λ (k : ℕ) (o : ℤ). answersOfE (start k o) calls) code offset
           ∙ sym (same-answers calls _ _ f (good-open c t z));
       state = by-code c′ calls t′ z′ f
-          ∙ ap₂ (λ (k : ℕ) (o : ℤ). measurement k o calls) code offset
+          ∙ ap₂ (λ (k : ℕ) (o : ℤ). measurement k o (took (start k o) calls)) code offset
           ∙ sym (by-code c calls t z f);
     }

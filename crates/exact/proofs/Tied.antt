@@ -93,12 +93,12 @@ count-at f j l = ap (λ (n : Samples). n .0) (each-at (samplesOf 0) thresholds (
 hang-at : (f : ℕ → ℕ) (j : ℕ) → j < thresholds → getD (each thresholds f) j 0 ≡ f j
 hang-at f j l = each-at 0 thresholds f j l
 
-both-at : (f g : ℕ → ℕ) (i j : ℕ) → i < thresholds → j < thresholds → Under (f i) (g i) (f j) (g j)
-    → Under (activity (each thresholds (λ k. samplesOf (f k))) i) (getD (each thresholds g) i 0) (activity (each thresholds (λ k. samplesOf (f k))) j) (getD (each thresholds g) j 0)
-both-at f g i j k l u =
+pub both-at : (f g f′ g′ : ℕ → ℕ) (i j : ℕ) → i < thresholds → j < thresholds → Under (f i) (g i) (f′ j) (g′ j)
+    → Under (activity (each thresholds (λ k. samplesOf (f k))) i) (getD (each thresholds g) i 0) (activity (each thresholds (λ k. samplesOf (f′ k))) j) (getD (each thresholds g′) j 0)
+both-at f g f′ g′ i j k l u =
     record {
-      count = omega (arith, count-at f i k, count-at f j l, u .count);
-      hang = omega (arith, hang-at g i k, hang-at g j l, u .hang);
+      count = omega (arith, count-at f i k, count-at f′ j l, u .count);
+      hang = omega (arith, hang-at g i k, hang-at g′ j l, u .hang);
     }
 
 more : (s n y : ℕ) → s ≤ n * 2 ^ 32 → y ≤ 2 ^ 16 * 2 ^ 16 → s + y ≤ (n + 1) * 2 ^ 32
@@ -179,7 +179,7 @@ module _ (D : ℕ) (m : State) (e : E) (x : ℤ) (k0 : 0 < e .K) (kG : e .K ≤ 
         q = q-near;
         each = λ j l. subst (λ (h : ℕ). Between D j (m .sums .n .0 + 1) (activity (each thresholds (λ i. samplesOf (countOf i))) j) h (takeOne e x)) (sym (hang-at hangs j l))
             (subst (λ (a : ℕ). Between D j (m .sums .n .0 + 1) a (hangs j) (takeOne e x)) (sym (count-at countOf j l)) (counter j l));
-        falls = λ j l. both-at countOf hangs (j + 1) j l (omega arith)
+        falls = λ j l. both-at countOf hangs countOf hangs (j + 1) j l (omega arith)
             (under-step (e .I) _ _ _ _ (leb (threshold (j + 1)) Q) (leb (threshold j) Q) (on-lower j) (t .falls j l));
         sum = omega (arith, abs-sum (m .sums .s) x, t .sum, sx);
         squares = le-trans (le-of-eq (two-of-words _)) (more (twoWords (m .sums .sq)) (m .sums .n .0) (size (e .o) x * size (e .o) x) (t .squares) (mul-le-mul so so));
@@ -216,7 +216,7 @@ tied-fresh D code K I o =
         few = omega (arith, count-at (λ i. 0) j l);
         held = omega (arith, hang-at (λ i. I) j l);
       };
-      falls = λ j l. both-at (λ i. 0) (λ i. I) (j + 1) j l (omega arith) (under-refl 0 I);
+      falls = λ j l. both-at (λ i. 0) (λ i. I) (λ i. 0) (λ i. I) (j + 1) j l (omega arith) (under-refl 0 I);
       sum = zero-le;
       squares = le-of-eq (two-of-words 0);
       p-max = zero-le;

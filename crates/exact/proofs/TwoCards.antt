@@ -1,9 +1,9 @@
--- Two cards on one line: `two-cards`. E orders the counts of its two runs, at thresholds that are d intervals apart; demand 3 puts each meter's count
--- between E's at the threshold and at the one raised by D.
+-- Two cards on one line: `two-cards`. E orders the counts of its two runs at thresholds that are d intervals apart, and so do the meters; demand 3 puts
+-- each meter's count between E's at the threshold and at the one raised by D.
 use mathlib.Core.List.{List}
 use mathlib.Core.Path.{_≡_, sym, ap, ap₂, subst, subst₂, _∙_}
-use Prim.Native.Nat.{ℕ, suc, _+_, _*_, _^_, _≤_, _<_}
-use native.Mathlib.Nat.{le-trans, mul-le-mul-right}
+use Prim.Native.Nat.{ℕ, _+_, _*_, _^_, _≤_, _<_}
+use native.Mathlib.Nat.{le-trans, mul-le-mul-right, two-pow-succ}
 use native.Mathlib.Numerals.{add-one}
 use native.Mathlib.Omega.{arith}
 use lib.IntN.{ℤ}
@@ -15,38 +15,25 @@ use Rattle.rate.proofs.Laws.{row-keeps}
 use Rattle.setting.specs.declared.Setting.{Setting}
 use Rattle.setting.specs.Settings.{dOf}
 use Rattle.level.specs.Types.{thresholds}
-use Rattle.sample.specs.Envelope.{interval, threshold, nextThreshold, workedOut}
-use Rattle.sample.proofs.Thresholds.{worked-out}
+use Rattle.sample.specs.Envelope.{interval, threshold}
 use Rattle.exact.specs.Calls.{Call, Typed}
-use Rattle.exact.specs.Demands.{TypedOffset, Opens, exactAt, exactAfter, takenFrom, countAt, Demand3}
+use Rattle.exact.specs.Demands.{TypedOffset, Opens, meterAfter, exactAt, exactAfter, takenFrom, countAt, Demand3}
 use Rattle.exact.specs.Exact.{E, start, takeAll}
 use Rattle.exact.specs.TwoCards.{Alike, OneLine, raised, meterCount, Compared, TwoCards}
-use Rattle.exact.proofs.Ahead.{ahead}
+use Rattle.exact.proofs.Ahead.{ahead, Leads, leads}
 use Rattle.exact.proofs.Calls.{accepted-setting}
 use Rattle.exact.proofs.Demand3.{demand3}
-use Rattle.exact.proofs.Lost.{exactly-is}
+use Rattle.exact.proofs.Lost.{exactly-is, measurement, state-is}
 
 -- ---- figures
 
 row : (c : Setting) → Opens c → Keeps (rowOf (c .code))
 row c z = row-keeps (c .code) (accepted-setting c z .0)
 
--- D is far below an interval
-small-D : (c : Setting) → Opens c → dOf c ≤ interval
-unfolding dOf
-small-D c z = let r = row c z in r .d-rule .smallest interval (omega (arith, mul-le-mul-right interval (r .k-low)))
-
--- c_j is 2^j intervals, and each twice the one before; so where 2^j is above d, the next is d intervals higher and more, by an interval or more
+-- c_j is 2^j intervals
 in-intervals : (j : ℕ) → threshold j ≡ 2 ^ j * interval
 unfolding threshold
 in-intervals j = pow-add 2 j 24
-
-next-threshold : (j : ℕ) → threshold (j + 1) ≡ 2 * threshold j
-unfolding workedOut
-next-threshold j = ap threshold (add-one j) ∙ sym (worked-out (suc j)) ∙ ap nextThreshold (worked-out j)
-
-room : (d j : ℕ) → d < 2 ^ j → threshold j + d * interval + interval ≤ threshold (j + 1)
-room d j h = omega (arith, next-threshold j, in-intervals j, mul-le-mul-right interval h)
 
 -- ---- the counts
 
@@ -70,13 +57,26 @@ module _ (d : ℕ) (c c′ : Setting) (calls calls′ : List Call) (l : OneLine 
       (sym (exact-is c′ calls′ second ∙ ap (λ (e : E). takeAll e (takenFrom c′ calls′)) same-start))
       (ahead d (c .code) (rowOf (c .code) .k) (rowOf (c .code) .i) (c .offset) (row c (l .opens) .k-high) (takenFrom c calls) (takenFrom c′ calls′) (l .samples) t t′ k)
 
+  -- and of the meters themselves
+  meters : Leads (d * interval) (meterAfter c calls .state) (meterAfter c′ calls′ .state)
+  unfolding measurement
+  meters =
+      let r = rowOf (c .code) in
+      subst₂ (Leads (d * interval))
+      (sym (state-is c calls (l .opens)))
+      (sym (state-is c′ calls′ (l .opens′) ∙ ap₂ (λ (k : ℕ) (o : ℤ). measurement k o (takenFrom c′ calls′)) (l .rate) (l .offset)))
+      (leads d (record { k = r .k; i = r .i; offset = c .offset }) (row c (l .opens) .k-high) (takenFrom c calls) (takenFrom c′ calls′) (l .samples))
+
+  alone : (i j : ℕ) → i < thresholds → j < thresholds → 2 ^ j + d ≤ 2 ^ i → meterCount c calls i ≤ meterCount c′ calls′ j
+  alone i j k n h = meters .each i j k n (omega (arith, in-intervals i, in-intervals j, mul-le-mul-right interval h)) .count
+
   compared : Compared d c c′ calls calls′
   compared =
       record {
         never-above = above;
-        exceeds-by = λ j k. omega (arith, first .at-most j k, above j k);
-        next-never-above = λ j k h. le-trans (first .at-most (j + 1) k)
-            (le-trans (exact-order (threshold (j + 1)) (threshold j + dOf c′) (omega (arith, room d j (omega (arith, h)), small-D c′ (l .opens′)))) (second .at-least j (omega arith)));
+        exceeds-at-most = λ j k. omega (arith, first .at-most j k, above j k);
+        meters-alone = alone;
+        next-threshold = λ j k h. alone (j + 1) j k (omega arith) (omega (arith, h, ap (λ (e : ℕ). 2 ^ e) (add-one j), two-pow-succ j));
       }
     where
       above : (j : ℕ) → j < thresholds → countAt (exactAfter c calls) (raised d c j) ≤ meterCount c′ calls′ j

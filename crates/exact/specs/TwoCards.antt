@@ -16,8 +16,8 @@ use Rattle.exact.specs.Exact.{distance}
 -- ---- the cards: "two sample sequences of equal length at one rate and offset, each given in accepted chunk or block calls to a fresh meter"
 
 -- two numbers differ by at most d
-abbrev pub Within : (d m n : ℕ) → Type 0
-Within d m n = (m ≤ n + d) × (n ≤ m + d)
+abbrev pub DifferAtMost : (d m n : ℕ) → Type 0
+DifferAtMost d m n = (m ≤ n + d) × (n ≤ m + d)
 
 -- the size |x − o| of the i-th sample
 abbrev pub sizeAt : (o : ℤ) → List ℤ → (i : ℕ) → ℕ
@@ -26,7 +26,7 @@ sizeAt o xs i = distance o (getD xs i (pos 0))
 -- samples that are equally many, and "whose rectified values (offset taken off first) differ by at most d intervals at each sample"
 pub record Alike (d : ℕ) (o : ℤ) (xs xs′ : List ℤ) : Type 0 where
   pub equally-many : length xs ≡ length xs′
-  pub sizes : (i : ℕ) → i < length xs → Within d (sizeAt o xs i) (sizeAt o xs′ i)
+  pub sizes : (i : ℕ) → i < length xs → DifferAtMost d (sizeAt o xs i) (sizeAt o xs′ i)
 
 -- the settings and the calls of two cards. Margins may differ, calls may be cut differently, and some may be refused: the samples are those that were
 -- taken
@@ -53,10 +53,12 @@ pub record Compared (d : ℕ) (c c′ : Setting) (calls calls′ : List Call) : 
   pub never-above : (j : ℕ) → j < thresholds → countAt (exactAfter c calls) (raised d c j) ≤ meterCount c′ calls′ j
   -- What a field engineer reads from it: the first meter's count exceeds the second's by at most E's own difference for the first card between the plain
   -- threshold and the raised one, u(c_j) − u(c_j + d·2^24 + D)
-  pub exceeds-by : (j : ℕ) → j < thresholds
+  pub exceeds-at-most : (j : ℕ) → j < thresholds
       → meterCount c calls j ≤ meterCount c′ calls′ j + (countAt (exactAfter c calls) (threshold j) - countAt (exactAfter c calls) (raised d c j))
-  -- and from the two meters alone, without E: where 2^j is above d, the first's count at the next threshold is never above the second's at c_j
-  pub next-never-above : (j : ℕ) → j + 1 < thresholds → d < 2 ^ j → meterCount c calls (j + 1) ≤ meterCount c′ calls′ j
+  -- And from the two meters alone, without E: where c_i is at least d intervals above c_j, the first's count at c_i is never above the second's at c_j
+  pub meters-alone : (i j : ℕ) → i < thresholds → j < thresholds → 2 ^ j + d ≤ 2 ^ i → meterCount c calls i ≤ meterCount c′ calls′ j
+  -- so at the next threshold, where 2^j is not below d
+  pub next-threshold : (j : ℕ) → j + 1 < thresholds → d ≤ 2 ^ j → meterCount c calls (j + 1) ≤ meterCount c′ calls′ j
 
 -- "and the same with the cards exchanged"
 pub record TwoCards (d : ℕ) (c c′ : Setting) (calls calls′ : List Call) : Type 0 where

@@ -24,7 +24,7 @@ use Rattle.exact.specs.Calls.{Call}
 use Rattle.exact.specs.Demands.{takenFrom, countAt}
 use Rattle.exact.specs.Envelope.{envelopeAfter, exactEnvelopeAfter}
 use Rattle.exact.specs.Exact.{distance}
-use Rattle.exact.specs.TwoCards.{Within, sizeAt, Alike, OneLine, raised, meterCount}
+use Rattle.exact.specs.TwoCards.{DifferAtMost, sizeAt, Alike, OneLine, raised, meterCount}
 use Rattle.figures.specs.Meters.{countsOf}
 use Rattle.figures.specs.Rows.{Shown, nothing, Values, Row, level, noLevel, percent, sampled, reported, refused, opened, handedIn, answered, checked, made, played, counted, needsTwo, cards, needsD, sampledMeter, meterFrom, exactFrom, numbersOf, shownBy, valuesOf, Holds, All}
 use Rattle.figures.proofs.Tests.{Test, via, _and_, always, never, is, isNot, unless, atMost, itself, _on_, Equality, sameNumber, sameInteger, sameAnswer, sameList, sameOption}
@@ -80,10 +80,10 @@ sameValues x y =
     on sameList sameNumber (x .h) (y .h)
 
 -- that two cards are on one line, by their samples in pairs: one pair, and the rest
-pub alike-both : {d : ℕ} {o : ℤ} {x x′ : ℤ} {xs xs′ : List ℤ} → Within d (distance o x) (distance o x′) → Alike d o xs xs′ → Alike d o (x ∷ xs) (x′ ∷ xs′)
+pub alike-both : {d : ℕ} {o : ℤ} {x x′ : ℤ} {xs xs′ : List ℤ} → DifferAtMost d (distance o x) (distance o x′) → Alike d o xs xs′ → Alike d o (x ∷ xs) (x′ ∷ xs′)
 alike-both {d} {o} {x} {x′} {xs} {xs′} w s = record { equally-many = omega (arith, s .equally-many); sizes = at-place }
   where
-    at-place : (i : ℕ) → i < length (x ∷ xs) → Within d (sizeAt o (x ∷ xs) i) (sizeAt o (x′ ∷ xs′) i)
+    at-place : (i : ℕ) → i < length (x ∷ xs) → DifferAtMost d (sizeAt o (x ∷ xs) i) (sizeAt o (x′ ∷ xs′) i)
     at-place zero l = w
     at-place (suc i) l = s .sizes i (omega arith)
 
