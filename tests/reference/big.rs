@@ -20,7 +20,7 @@ impl Natural {
     /// The sum.
     pub fn add(&self, other: &Natural) -> Natural {
         let length = self.limbs.len().max(other.limbs.len());
-        let mut limbs = Vec::new();
+        let mut limbs = Vec::with_capacity(length + 1);
         let mut carry = 0;
         for i in 0..length {
             let left = u128::from(*self.limbs.get(i).unwrap_or(&0));
@@ -35,7 +35,7 @@ impl Natural {
 
     /// The product with one limb.
     pub fn times(&self, factor: u64) -> Natural {
-        let mut limbs = Vec::new();
+        let mut limbs = Vec::with_capacity(self.limbs.len() + 1);
         let mut carry = 0;
         for &limb in &self.limbs {
             let product = u128::from(limb) * u128::from(factor) + carry;
@@ -66,6 +66,14 @@ impl Natural {
         let mut limbs = vec![0; (bits / 64) as usize];
         limbs.extend(&self.times(1 << (bits % 64)).limbs);
         Natural::trimmed(limbs)
+    }
+
+    /// The whole part of the quotient with 2^bits; None where 64 bits do not hold it.
+    pub fn whole_part(&self, bits: u64) -> Option<u64> {
+        let kept = self.limbs.get((bits / 64) as usize..).unwrap_or(&[]);
+        let limb = |i: usize| u128::from(*kept.get(i).unwrap_or(&0));
+        let quotient = ((limb(1) << 64) + limb(0)) >> (bits % 64);
+        u64::try_from(quotient).ok().filter(|_| kept.len() <= 2)
     }
 
     /// The power.

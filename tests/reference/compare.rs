@@ -1,7 +1,7 @@
 //! Demand 3 checked over the printed answers to a list of calls, by E and by the meter shown.
 
 use crate::answer::clauses;
-use crate::exact::{counts_never_rise, thresholds, Exact};
+use crate::exact::{counts_never_rise, Exact};
 use crate::meter::{Meter, Report};
 use crate::printed::{self, numbers};
 use crate::rate::rate;
@@ -66,7 +66,7 @@ impl Comparison {
         self.tally
             .holds(&format!("{name} the opening's answer"), right);
         let rate = rate(u32::from(setting.code)).filter(|_| r == 0);
-        self.exact = rate.map(|rate| Exact::open(rate, setting.offset, &thresholds(rate)));
+        self.exact = rate.map(|rate| Exact::open(rate, setting.offset));
         self.margin = setting.margin;
     }
 }

@@ -1,6 +1,8 @@
 //! Wrong answers to lists of calls and on meters handed in, to see that the check of demand 3
-//! refuses each of them; and wrong answers to writes, for that of the customer's request L6.
+//! refuses each of them; wrong answers to writes, for that of the customer's request L6, and to the
+//! calls of two cards, for that of L7.
 
+mod cards;
 mod margins;
 mod offsets;
 mod read_back;
@@ -116,6 +118,7 @@ pub fn doctored(tally: &mut Tally) {
     margins::margins(tally);
     writes::writes(tally);
     read_back::read_back(tally);
+    cards::cards(tally);
 }
 
 /// A list for each answer, on which any other breaks two clauses: the right one's and its own.

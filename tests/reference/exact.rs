@@ -5,17 +5,10 @@ use crate::block;
 use crate::meter::{c, MOST_IN_CHUNK, MOST_SAMPLES};
 use crate::rate::Rate;
 
-/// E's count u and hangover v at a threshold c in units (the customer's scope, "One sample").
-struct Count {
-    c: u64,
-    u: u64,
-    v: u64,
-}
-
 /// E (the customer's scope, "One sample"; the customer's request L2), with sq ("The report") and s
 /// over the samples it took.
 pub struct Exact {
-    rate: &'static Rate,
+    pub rate: &'static Rate,
     pub offset: i16,
     pub y: u64,
     /// The numerator of p over 2^(20 y).
@@ -24,26 +17,15 @@ pub struct Exact {
     q: Natural,
     pub s: i64,
     pub sq: u128,
-    counts: Vec<Count>,
-}
-
-/// Every c_j and c_j + D of a rate (the customer's scope, "One sample").
-pub fn thresholds(rate: &Rate) -> Vec<u64> {
-    (0..15)
-        .map(c)
-        .chain((0..15).map(|j| c(j) + rate.D()))
-        .collect()
+    /// The whole part of q after each sample, in units: a threshold is whole, so that q is at or
+    /// above it just where its whole part is.
+    wholes: Vec<u64>,
 }
 
 impl Exact {
-    /// E before any call, with the thresholds to count at (the customer's scope, "One sample"; the
-    /// customer's request L2).
-    pub fn open(rate: &'static Rate, offset: i16, thresholds: &[u64]) -> Exact {
+    /// E before any call (the customer's scope, "One sample"; the customer's request L2).
+    pub fn open(rate: &'static Rate, offset: i16) -> Exact {
         let zero = Natural::from(0);
-        let counts = thresholds
-            .iter()
-            .map(|&c| Count { c, u: 0, v: rate.I })
-            .collect();
         Exact {
             rate,
             offset,
@@ -52,7 +34,7 @@ impl Exact {
             q: zero,
             s: 0,
             sq: 0,
-            counts,
+            wholes: Vec::new(),
         }
     }
 
@@ -108,27 +90,30 @@ impl Exact {
         let input = Natural::from(magnitude << 24).times(K);
         self.p = self.p.times(kept).add(&input.shift_left(20 * (self.y - 1)));
         self.q = self.q.times(kept).add(&self.p.times(K));
-        let denominator = 20 * (self.y + 1);
-        for count in &mut self.counts {
-            if self.q >= Natural::from(u128::from(count.c)).shift_left(denominator) {
-                count.u += 1;
-                count.v = 0;
-            } else if count.v < self.rate.I {
-                count.u += 1;
-                count.v += 1;
+        let whole = self.q.whole_part(20 * (self.y + 1));
+        self.wholes.push(whole.expect("q is less than 2^40"));
+    }
+
+    /// E's count u at a threshold c in units, by its hangover v (the customer's scope, "One
+    /// sample").
+    pub fn count(&self, c: u64) -> u64 {
+        let (mut u, mut v) = (0, self.rate.I);
+        for &whole in &self.wholes {
+            if whole >= c {
+                u += 1;
+                v = 0;
+            } else if v < self.rate.I {
+                u += 1;
+                v += 1;
             }
         }
+        u
     }
 
-    /// E's count at a threshold (the customer's scope, "One sample").
-    fn count(&self, c: u64) -> u64 {
-        let found = self.counts.iter().find(|count| count.c == c);
-        found.expect("E was opened with this threshold").u
-    }
-
-    /// E's counts, in the order of the thresholds it was opened with.
+    /// E's counts at each c_j and then at each c_j + D (the customer's scope, "One sample").
     pub fn counts(&self) -> impl Iterator<Item = u64> + '_ {
-        self.counts.iter().map(|count| count.u)
+        let raised = (0..15).map(|j| c(j) + self.rate.D());
+        (0..15).map(c).chain(raised).map(|c| self.count(c))
     }
 
     /// Demand 3: no a_j is above E's count at c_j.

@@ -1,6 +1,7 @@
-//! The worked figures, and a few further ones; wrong answers that the check of demand 3 and that of
-//! the customer's request L6 refuse.
+//! The worked figures, and a few further ones; wrong answers that the check of demand 3 and those
+//! of the customer's requests L6 and L7 refuse.
 
+mod cards;
 mod crossings;
 mod highest;
 mod margins;
@@ -36,6 +37,7 @@ pub fn figures() -> bool {
     highest::highest(&mut tally);
     margins::margins(&mut tally);
     writes::writes(&mut tally);
+    cards::cards(&mut tally);
     doctored(&mut tally);
     tally.finish()
 }

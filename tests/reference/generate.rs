@@ -3,14 +3,17 @@
 mod blocks;
 mod bounds;
 mod calls;
+mod cuts;
 mod filling;
 mod lists;
 mod meters;
+mod pairs;
 pub mod random;
 mod recording;
 mod script;
 pub mod settings;
 pub mod signals;
+mod sizes;
 mod thresholds;
 mod writes;
 
@@ -32,6 +35,8 @@ pub fn generate(kind: &str, seed: u64, count: u64) -> Option<Vec<u8>> {
         "write" => Some(writes::writes(seed, count)),
         "calls" => Some(calls::calls(seed, count)),
         "lists" => Some(lists::list(seed, count)),
+        "first" => Some(pairs::card(seed, count, 0)),
+        "second" => Some(pairs::card(seed, count, 1)),
         "recording" => Some(recording::recording(seed, count)),
         _ => None,
     }

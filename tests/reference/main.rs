@@ -8,6 +8,7 @@
 mod answer;
 mod big;
 mod block;
+mod cards;
 mod chosen;
 mod clause11;
 mod compare;
@@ -22,6 +23,7 @@ mod level;
 mod margins;
 mod measurement;
 mod meter;
+mod noise;
 mod percent;
 mod printed;
 mod rate;
@@ -39,6 +41,13 @@ use std::process::ExitCode;
 
 /// Said of a script that cannot be played to its end.
 const BAD_RECORD: &str = "the script has a bad record";
+
+/// The commands.
+const COMMANDS: &str = "replay | report | host | generate KIND SEED COUNT | blocks CODE | \
+    noise D SEED | figures | exact | counts | samples | largest | crossed | chosen | margins | \
+    agrees SCRIPT OUTPUT | written SCRIPT OUTPUT | cards SCRIPT OUTPUT SCRIPT OUTPUT | \
+    compared RECORDING OUTPUT RECORDING OUTPUT | clause11 script | clause11 check OUTPUT | \
+    speech ...";
 
 /// Everything on standard input.
 fn input() -> io::Result<Vec<u8>> {
@@ -73,7 +82,7 @@ fn generate(kind: &str, seed: &str, count: &str) -> io::Result<bool> {
     };
     match generate::generate(kind, seed, count) {
         Some(bytes) => output(&bytes),
-        None => error("KIND is lev, host, check, write, calls, lists or recording"),
+        None => error("KIND is lev, host, check, write, calls, lists, first, second or recording"),
     }
 }
 
@@ -95,6 +104,21 @@ fn held(
     counted(check(&script, &std::fs::read_to_string(printed)?))
 }
 
+/// Prints what a check found of two cards, by a file that was given to each and the lines that
+/// another program printed for it.
+fn two_cards(
+    check: fn([&[u8]; 2], [&str; 2]) -> Option<cards::Held>,
+    [first, first_printed, second, second_printed]: [&str; 4],
+) -> io::Result<bool> {
+    let given = [std::fs::read(first)?, std::fs::read(second)?];
+    let first_printed = std::fs::read_to_string(first_printed)?;
+    let second_printed = std::fs::read_to_string(second_printed)?;
+    match check([&given[0], &given[1]], [&first_printed, &second_printed]) {
+        Some(held) => Ok(held.finish()),
+        None => error(BAD_RECORD),
+    }
+}
+
 /// The rate of a code that names one.
 fn rate_of(code: &str) -> io::Result<&'static rate::Rate> {
     match code.parse().ok().and_then(rate::rate) {
@@ -111,7 +135,7 @@ fn samples(bytes: &[u8]) -> io::Result<Vec<i16>> {
     }
 }
 
-/// The seed of a voice.
+/// The seed of a voice or of noise.
 fn seed_of(seed: &str) -> io::Result<u64> {
     seed.parse().or_else(|_| error("SEED is a number"))
 }
@@ -158,6 +182,15 @@ fn blocks(code: &str) -> io::Result<bool> {
     output(&block::pack(rate_of(code)?.code, &samples(&input()?)?))
 }
 
+/// The samples on standard input with noise.
+fn noise(most: &str, seed: &str) -> io::Result<bool> {
+    let most = most
+        .parse()
+        .or_else(|_| error("D is a number below 65536"))?;
+    let samples = samples(&input()?)?;
+    output_samples(&noise::noisy(&samples, most, seed_of(seed)?))
+}
+
 /// Runs one command; whether nothing failed.
 fn run(arguments: &[&str]) -> io::Result<bool> {
     match arguments {
@@ -166,6 +199,7 @@ fn run(arguments: &[&str]) -> io::Result<bool> {
         ["host"] => lines(host::host(&input()?), "a record is cut short"),
         ["generate", kind, seed, count] => generate(kind, seed, count),
         ["blocks", code] => blocks(code),
+        ["noise", most, seed] => noise(most, seed),
         ["figures"] => Ok(figures::figures()),
         ["exact"] => counted(compare::exact(&input()?)),
         ["counts"] => lines(
@@ -179,16 +213,17 @@ fn run(arguments: &[&str]) -> io::Result<bool> {
         ["margins"] => lines(margins::margins(&input()?), BAD_RECORD),
         ["agrees", script, printed] => held(compare::agrees, script, printed),
         ["written", script, printed] => held(written::written, script, printed),
+        ["cards", a, b, c, d] => two_cards(cards::cards, [a, b, c, d]),
+        ["compared", a, b, c, d] => two_cards(
+            |recordings, printed| Some(cards::compared(recordings, printed)),
+            [a, b, c, d],
+        ),
         ["clause11", "script"] => output(&clause11::script()),
         ["clause11", "check", printed] => {
             Ok(clause11::check(&std::fs::read_to_string(printed)?).finish())
         }
         ["speech", arguments @ ..] => speech(arguments),
-        _ => error(
-            "replay | report | host | generate KIND SEED COUNT | blocks CODE | figures | exact | \
-             counts | samples | largest | crossed | chosen | margins | agrees SCRIPT OUTPUT | \
-             written SCRIPT OUTPUT | clause11 script | clause11 check OUTPUT | speech ...",
-        ),
+        _ => error(COMMANDS),
     }
 }
 

@@ -1,4 +1,4 @@
-//! The lines that a replay program prints, read back.
+//! The lines that a replay program prints, and those of the report program, read back.
 
 use crate::meter::{Meter, Report};
 use crate::replay::write_line;
@@ -76,6 +76,15 @@ pub fn meter(line: &str) -> Option<Meter> {
         a: fifteen(&values[9..24])?,
         h: fifteen(&values[24..])?,
     })
+}
+
+/// The n and the a_j that the report program printed, each on a line of its own.
+pub fn measured(output: &str) -> Option<(u64, [u64; 15])> {
+    let line = |word| output.lines().find_map(|line| numbers(line, word));
+    let [n] = line("samples")?[..] else {
+        return None;
+    };
+    Some((u64::try_from(n).ok()?, fifteen(&line("counts")?)?))
 }
 
 /// The number of a write's line and the buffer's bytes; None for any other form than that of the

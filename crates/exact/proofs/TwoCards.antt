@@ -75,7 +75,7 @@ module _ (d : ℕ) (c c′ : Setting) (calls calls′ : List Call) (l : OneLine 
       record {
         never-above = above;
         exceeds-at-most = λ j k. omega (arith, first .at-most j k, above j k);
-        meters-alone = alone;
+        meters-alone = λ i j k n h. alone i j k n (omega (arith, h));
         next-threshold = λ j k h. alone (j + 1) j k (omega arith) (omega (arith, h, ap (λ (e : ℕ). 2 ^ e) (add-one j), two-pow-succ j));
       }
     where

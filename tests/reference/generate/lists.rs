@@ -7,7 +7,6 @@ use super::signals::{
     around, full_scale, furthest, grazing, hum_and_exact_shout, hum_and_shout, noise_within,
     placed, signal,
 };
-use crate::block;
 use crate::meter::Meter;
 use crate::rate::{Rate, RATES};
 use crate::records::Record;
@@ -74,7 +73,8 @@ pub fn list(seed: u64, count: u64) -> Vec<u8> {
     let mut rest = &samples[..];
     for _ in 0..count {
         if script.random.once_in(4) {
-            refused(&mut script);
+            let record = script.refused();
+            script.add(record);
         } else {
             rest = accepted(&mut script, rest, count);
         }
@@ -201,26 +201,8 @@ fn any_samples(random: &mut Random, rate: &Rate, offset: i16) -> Vec<i16> {
 /// A chunk or a block of the signal's next samples; gives the samples left.
 fn accepted<'a>(script: &mut Script, rest: &'a [i16], count: u64) -> &'a [i16] {
     let wanted = script.random.between(0, 3 * TOTAL as u64 / count + 1) as usize;
-    let length = wanted.min(rest.len());
-    let (taken, rest) = rest.split_at(length);
-    if (1..=block::MOST).contains(&length) && script.random.once_in(2) {
-        let bytes = block::make(script.meter().setting.code, script.meter().n, taken);
-        script.add(Record::Block(bytes));
-    } else {
-        script.add(Record::Chunk(taken.to_vec()));
-    }
-    rest
-}
-
-/// A call to refuse.
-fn refused(script: &mut Script) {
-    let damaged = script.damaged();
-    let record = match script.random.below(6) {
-        0 => Record::Chunk(vec![1000; script.random.between(4097, 4200) as usize]),
-        1 => Record::Block(script.misplaced()),
-        2 => Record::Block(script.of_another_rate()),
-        _ if block::sound(&damaged) => Record::Block(script.misplaced()),
-        _ => Record::Block(damaged),
-    };
+    let (taken, rest) = rest.split_at(wanted.min(rest.len()));
+    let record = script.taken(taken);
     script.add(record);
+    rest
 }

@@ -82,4 +82,26 @@ impl Script {
         damage(&mut self.random, &mut bytes);
         bytes
     }
+
+    /// A chunk or a block of samples that fits the meter.
+    pub fn taken(&mut self, samples: &[i16]) -> Record {
+        if (1..=block::MOST).contains(&samples.len()) && self.random.once_in(2) {
+            let (code, n) = (self.meter().setting.code, self.meter().n);
+            Record::Block(block::make(code, n, samples))
+        } else {
+            Record::Chunk(samples.to_vec())
+        }
+    }
+
+    /// A call to refuse.
+    pub fn refused(&mut self) -> Record {
+        let damaged = self.damaged();
+        match self.random.below(6) {
+            0 => Record::Chunk(vec![1000; self.random.between(4097, 4200) as usize]),
+            1 => Record::Block(self.misplaced()),
+            2 => Record::Block(self.of_another_rate()),
+            _ if block::sound(&damaged) => Record::Block(self.misplaced()),
+            _ => Record::Block(damaged),
+        }
+    }
 }

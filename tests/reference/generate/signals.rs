@@ -75,7 +75,7 @@ pub fn noise_within(random: &mut Random, most: u64, length: usize) -> Vec<i16> {
 }
 
 /// Noise with pauses longer than the hangover.
-fn bursts(random: &mut Random, I: u64, length: usize) -> Vec<i16> {
+pub fn bursts(random: &mut Random, I: u64, length: usize) -> Vec<i16> {
     let mut samples = Vec::new();
     while samples.len() < length {
         let burst = random.between(1, I) as usize;
