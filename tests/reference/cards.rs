@@ -53,10 +53,10 @@ impl Way<'_> {
         (0..15).all(|j| self.raised(j, d, units) <= self.second.a[j])
     }
 
-    /// The clauses at j: the request's own (the customer's request L7); that the first meter's count
-    /// exceeds the second's by at most E's own difference for the first; and, of the meters alone,
-    /// that the first's count is not above the second's where it is of a threshold d intervals or
-    /// more higher.
+    /// The clauses at j: the request's own (the customer's request L7); that the first meter's
+    /// count exceeds the second's by at most E's own difference for the first; and, of the meters
+    /// alone, that the first's count is not above the second's where it is of a threshold d
+    /// intervals or more higher.
     fn clauses(&self, j: usize, d: u64) -> [(&'static str, bool); 3] {
         let raised = self.raised(j, d, self.first.exact.rate.D());
         let difference = self.first.exact.count(c(j)) - raised;
@@ -127,18 +127,20 @@ impl Pair {
         both.any(|(x, y)| u64::from(x.abs_diff(*y)) > self.d)
     }
 
-    /// Whether the request's clause holds with equality somewhere, of a count above 0.
-    fn equal(&self) -> bool {
-        let at = |way: &Way, j| {
-            let raised = way.raised(j, self.d, self.D());
-            raised > 0 && raised == way.second.a[j]
-        };
-        self.ways().iter().any(|way| (0..15).any(|j| at(way, j)))
-    }
-
-    /// Whether the request's clause would break with this in place of d and D.
-    fn breaks(&self, d: u64, units: u64) -> bool {
-        !self.ways().iter().all(|way| way.bounded(d, units))
+    /// How sharp the request's clause is one way round: whether it would break with d - 1 in place
+    /// of d, and without D, and whether it holds with equality somewhere, of a count above 0.
+    fn sharpness(&self, way: &Way) -> [(String, bool); 3] {
+        let (d, D, name) = (self.d, self.D(), way.name);
+        let raised = |j| way.raised(j, d, D);
+        let mut equal = (0..15).filter(|&j| raised(j) == way.second.a[j]);
+        [
+            (
+                format!("breaks at d - 1, {name}"),
+                d > 0 && !way.bounded(d - 1, D),
+            ),
+            (format!("breaks without D, {name}"), !way.bounded(d, 0)),
+            (format!("equal, {name}"), equal.any(|j| raised(j) > 0)),
+        ]
     }
 
     /// What is worth telling of the pair, a line each.
@@ -157,12 +159,12 @@ impl Pair {
             ("refused second", second.refused),
             ("cut differently", first.cut != second.cut),
             ("mirrored", self.mirrored()),
-            ("breaks at d - 1", d > 0 && self.breaks(d - 1, self.D())),
-            ("breaks without D", self.breaks(d, 0)),
-            ("equal", self.equal()),
         ];
-        let found = found.iter().filter(|(_, holds)| *holds);
-        facts.extend(found.map(|(fact, _)| fact.to_string()));
+        let found = found.map(|(fact, holds)| (fact.to_string(), holds));
+        let ways = self.ways();
+        let sharp = ways.iter().flat_map(|way| self.sharpness(way));
+        let all = found.into_iter().chain(sharp);
+        facts.extend(all.filter(|(_, holds)| *holds).map(|(fact, _)| fact));
         facts
     }
 

@@ -30,20 +30,25 @@ struct List {
     meter: Meter,
 }
 
+/// The script of an opening, some calls and a show, the lines before the show's, and the meter then.
+fn played(setting: Setting, calls: &[Record]) -> (Vec<u8>, String, Meter) {
+    let mut player = Player::new();
+    let (mut script, mut lines) = (Vec::new(), String::new());
+    let opening = Record::Open(setting);
+    for record in iter::once(&opening).chain(calls) {
+        record.write(&mut script);
+        lines += &player.answer(record);
+        lines += "\n";
+    }
+    Record::Show.write(&mut script);
+    (script, lines, player.meter)
+}
+
 impl List {
     /// The list of some calls at a setting.
     fn new(setting: Setting, calls: &[Record]) -> List {
-        let mut player = Player::new();
-        let (mut script, mut lines) = (Vec::new(), String::new());
-        let opening = Record::Open(setting);
-        for record in iter::once(&opening).chain(calls) {
-            record.write(&mut script);
-            lines += &player.answer(record);
-            lines += "\n";
-        }
-        Record::Show.write(&mut script);
+        let (mut script, lines, meter) = played(setting, calls);
         Record::Report.write(&mut script);
-        let meter = player.meter;
         List {
             script,
             lines,

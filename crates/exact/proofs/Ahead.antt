@@ -21,7 +21,7 @@ use Rattle.sample.specs.Sample.{freshState, summed, counts, hangovers, stateAft
 use Rattle.sample.proofs.Activity.{Under, under-refl, under-step}
 use Rattle.exact.specs.Exact.{E, startAt, distance, reaches, countNext, hangoverNext, takeOne, takeAll}
 use Rattle.exact.specs.TwoCards.{Alike}
-use Rattle.exact.proofs.Tied.{power-next, both-at}
+use Rattle.exact.proofs.Tied.{power-next, countOf, hangOf, both-at}
 
 -- ---- one step
 
@@ -47,15 +47,25 @@ fed-sizes d W s s′ h = let a = mul-le-mul-right (interval * W) h in omega arit
 reached : (X W n n′ t t′ : ℕ) → n ≤ n′ + X * W → t′ + X ≤ t → t * W ≤ n → t′ * W ≤ n′
 reached X W n n′ t t′ h l r = let a = mul-le-mul-right W l in omega arith
 
-on-lower : (X y n n′ t t′ : ℕ) → n ≤ n′ + X * (2 ^ 20) ^ (y + 1) → t′ + X ≤ t → reaches y n t ≡ true → reaches y n′ t′ ≡ true
+on-second : (X y n n′ t t′ : ℕ) → n ≤ n′ + X * (2 ^ 20) ^ (y + 1) → t′ + X ≤ t → reaches y n t ≡ true → reaches y n′ t′ ≡ true
 unfolding reaches
-on-lower X y n n′ t t′ h l r = le-leb _ _ (reached X ((2 ^ 20) ^ (y + 1)) n n′ t t′ h l (leb-true _ _ r))
+on-second X y n n′ t t′ h l r = le-leb _ _ (reached X ((2 ^ 20) ^ (y + 1)) n n′ t t′ h l (leb-true _ _ r))
 
 -- ---- pairs of samples
 
 -- all but the first of each
 alike-rest : {d : ℕ} {o : ℤ} {x x′ : ℤ} {xs xs′ : List ℤ} → Alike d o (x ∷ xs) (x′ ∷ xs′) → Alike d o xs xs′
 alike-rest s = record { equally-many = omega (arith, s .equally-many); sizes = λ i l. s .sizes (suc i) (omega arith) }
+
+-- what holds of no samples, and of a pair of samples more wherever it holds of the rest, holds of all that are alike
+along : {d : ℕ} {o : ℤ} (C : List ℤ → List ℤ → Type 0) → C [] []
+    → ((x x′ : ℤ) (xs xs′ : List ℤ) → distance o x ≤ distance o x′ + d → C xs xs′ → C (x ∷ xs) (x′ ∷ xs′))
+    → (xs xs′ : List ℤ) → Alike d o xs xs′ → C xs xs′
+along C none pair [] [] s = none
+along C none pair [] (x′ ∷ xs′) s = absurd (omega (arith, s .equally-many))
+along C none pair (x ∷ xs) [] s = absurd (omega (arith, s .equally-many))
+along C none pair (x ∷ xs) (x′ ∷ xs′) s =
+    pair x x′ xs xs′ (omega (arith, s .sizes 0 (omega arith) .0)) (along C none pair xs xs′ (alike-rest s))
 
 -- ---- E
 
@@ -91,30 +101,24 @@ module _ (d code K I : ℕ) (o : ℤ) (kG : K ≤ 2 ^ 20) where
       record {
         p = p;
         q = q;
-        each = λ t t′ l. under-step I _ _ _ _ _ _ (on-lower X (y + 1) _ _ t t′ q l) (a .each t t′ l);
+        each = λ t t′ l. under-step I _ _ _ _ _ _ (on-second X (y + 1) _ _ t t′ q l) (a .each t t′ l);
       }
-
-  -- samples in order
-  ahead-all : (xs xs′ : List ℤ) (y : ℕ) (m m′ : Moving) → Ahead (d * interval) y m m′ → Alike d o xs xs′ → (t t′ : ℕ) → t′ + d * interval ≤ t
-      → takeAll (at y m) xs .u t ≤ takeAll (at y m′) xs′ .u t′
-  unfolding takeAll takeOne
-  ahead-all [] [] y m m′ a s t t′ l = a .each t t′ l .count
-  ahead-all [] (x′ ∷ xs′) y m m′ a s t t′ l = absurd (omega (arith, s .equally-many))
-  ahead-all (x ∷ xs) [] y m m′ a s t t′ l = absurd (omega (arith, s .equally-many))
-  ahead-all (x ∷ xs) (x′ ∷ xs′) y m m′ a s t t′ l =
-      ahead-all xs xs′ (y + 1) _ _ (ahead-step y m m′ x x′ (omega (arith, s .sizes 0 (omega arith) .0)) a) (alike-rest s) t t′ l
 
   -- from the start: E counts at t at most what it counts over the other samples at any threshold lower by d intervals
   pub ahead : (xs xs′ : List ℤ) → Alike d o xs xs′ → (t t′ : ℕ) → t′ + d * interval ≤ t
       → takeAll (startAt code K I o) xs .u t ≤ takeAll (startAt code K I o) xs′ .u t′
-  unfolding startAt
+  unfolding startAt takeAll takeOne
   ahead xs xs′ s t t′ l =
-      let none : Moving = record { pn = 0; qn = 0; u = λ c. 0; v = λ c. I; sq = 0 } in
-      ahead-all xs xs′ 0 none none (record { p = zero-le; q = zero-le; each = λ r r′ k. under-refl 0 I }) s t t′ l
+      let fresh : Moving = record { pn = 0; qn = 0; u = λ c. 0; v = λ c. I; sq = 0 } in
+      along (λ ys ys′. (y : ℕ) (m m′ : Moving) → Ahead (d * interval) y m m′ → takeAll (at y m) ys .u t ≤ takeAll (at y m′) ys′ .u t′)
+      (λ y m m′ a. a .each t t′ l .count)
+      (λ x x′ ys ys′ h rest y m m′ a. rest (y + 1) _ _ (ahead-step y m m′ x x′ h a))
+      xs xs′ s 0 fresh fresh
+      (record { p = zero-le; q = zero-le; each = λ r r′ k. under-refl 0 I })
 
 -- ---- the meter
 
--- a floor keeps whole numbers as far apart as it finds them
+-- where one number is at most X above another, X whole, so is its floor
 floors : (G X n n′ : ℕ) → 0 < G → n ≤ n′ + X * G → n / G ≤ n′ / G + X
 floors G X n n′ g h =
     let low = div-mul-le-self n G in
@@ -137,19 +141,13 @@ pub record Leads (X : ℕ) (m m′ : State) : Type 0 where
       → Under (activity (m .a) i) (getD (m .h) i 0) (activity (m′ .a) j) (getD (m′ .h) j 0)
 
 module _ (d : ℕ) (by : Counting) (kG : by .k ≤ 2 ^ 20) where
-  -- the envelope, the counts and the hangovers after a sample
+  -- the envelope after a sample
   Q : State → ℤ → ℕ
   Q m x = smooth (by .k) (m .sums .q) (smooth (by .k) (m .sums .p) (rectified (by .offset) x))
 
-  countOf : State → ℤ → ℕ → ℕ
-  countOf m x j = counted (by .i) (leb (threshold j) (Q m x)) (activity (m .a) j) (getD (m .h) j 0)
-
-  hangs : State → ℤ → ℕ → ℕ
-  hangs m x j = hung (by .i) (leb (threshold j) (Q m x)) (getD (m .h) j 0)
-
   leads-step : (m m′ : State) (x x′ : ℤ) → distance (by .offset) x ≤ distance (by .offset) x′ + d → Leads (d * interval) m m′
       → Leads (d * interval) (stateAfterOne by m x) (stateAfterOne by m′ x′)
-  unfolding stateAfterOne summed counts hangovers rectified size distance Q countOf hangs
+  unfolding stateAfterOne summed counts hangovers rectified size distance countOf hangOf Q
   leads-step m m′ x x′ h a =
       let X = d * interval in
       let o = by .offset in
@@ -158,25 +156,19 @@ module _ (d : ℕ) (by : Counting) (kG : by .k ≤ 2 ^ 20) where
       record {
         p = P;
         q = q;
-        each = λ i j k l t. both-at (countOf m x) (hangs m x) (countOf m′ x′) (hangs m′ x′) i j k l
+        each = λ i j k l t. both-at (countOf (by .i) (Q m x) m) (hangOf (by .i) (Q m x) m) (countOf (by .i) (Q m′ x′) m′) (hangOf (by .i) (Q m′ x′) m′) i j k l
             (under-step (by .i) _ _ _ _ (leb (threshold i) (Q m x)) (leb (threshold j) (Q m′ x′)) (λ r. le-leb (threshold j) (Q m′ x′) (omega (arith, leb-true (threshold i) (Q m x) r, q, t))) (a .each i j k l t));
       }
 
-  leads-all : (xs xs′ : List ℤ) (m m′ : State) → Leads (d * interval) m m′ → Alike d (by .offset) xs xs′ → Leads (d * interval) (stateAfter by m xs) (stateAfter by m′ xs′)
-  unfolding stateAfter
-  leads-all [] [] m m′ a s = a
-  leads-all [] (x′ ∷ xs′) m m′ a s = absurd (omega (arith, s .equally-many))
-  leads-all (x ∷ xs) [] m m′ a s = absurd (omega (arith, s .equally-many))
-  leads-all (x ∷ xs) (x′ ∷ xs′) m m′ a s =
-      leads-all xs xs′ _ _ (leads-step m m′ x x′ (omega (arith, s .sizes 0 (omega arith) .0)) a) (alike-rest s)
-
   pub leads : (xs xs′ : List ℤ) → Alike d (by .offset) xs xs′ → Leads (d * interval) (stateAfter by (freshState (by .i)) xs) (stateAfter by (freshState (by .i)) xs′)
-  unfolding freshState
+  unfolding freshState stateAfter
   leads xs xs′ s =
-      leads-all xs xs′ _ _
+      along (λ ys ys′. (m m′ : State) → Leads (d * interval) m m′ → Leads (d * interval) (stateAfter by m ys) (stateAfter by m′ ys′))
+      (λ m m′ a. a)
+      (λ x x′ ys ys′ h rest m m′ a. rest _ _ (leads-step m m′ x x′ h a))
+      xs xs′ s (freshState (by .i)) (freshState (by .i))
       (record {
         p = zero-le;
         q = zero-le;
         each = λ i j k l t. both-at (λ r. 0) (λ r. by .i) (λ r. 0) (λ r. by .i) i j k l (under-refl 0 (by .i));
       })
-      s

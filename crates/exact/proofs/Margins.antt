@@ -13,7 +13,7 @@ use Rattle.exact.specs.Exact.{start, answersOfE, took}
 use Rattle.exact.proofs.Calls.{good-open, same-answers, same-samples}
 use Rattle.exact.proofs.Lost.{measurement, state-is}
 
--- over the calls that E took
+-- over the samples that E took
 by-code : (c : Setting) (calls : List Call) → TypedOffset c → Opens c → Typed calls
     → meterAfter c calls .state ≡ measurement (c .code) (c .offset) (took (exactAt c) calls)
 by-code c calls t z f =

@@ -86,6 +86,13 @@ pub record Tied (D : ℕ) (m : State) (e : E) : Type 0 where
   pub p-max : m .sums .p ≤ 2 ^ 40
   pub q-max : m .sums .q ≤ 2 ^ 40
 
+-- the count and the hangover at threshold j after a sample that left the envelope at Q
+unfoldable pub countOf : (I Q : ℕ) → State → (j : ℕ) → ℕ
+countOf I Q m j = counted I (leb (threshold j) Q) (activity (m .a) j) (getD (m .h) j 0)
+
+unfoldable pub hangOf : (I Q : ℕ) → State → (j : ℕ) → ℕ
+hangOf I Q m j = hung I (leb (threshold j) Q) (getD (m .h) j 0)
+
 -- what stands at each place of the lists of counts and hangovers
 count-at : (f : ℕ → ℕ) (j : ℕ) → j < thresholds → activity (each thresholds (λ i. samplesOf (f i))) j ≡ f j
 count-at f j l = ap (λ (n : Samples). n .0) (each-at (samplesOf 0) thresholds (λ i. samplesOf (f i)) j l)
@@ -153,9 +160,8 @@ module _ (D : ℕ) (m : State) (e : E) (x : ℤ) (k0 : 0 < e .K) (kG : e .K ≤ 
   on-lower : (j : ℕ) → leb (threshold (j + 1)) Q ≡ true → leb (threshold j) Q ≡ true
   on-lower j h = le-leb _ _ (le-trans (thresholds-rise j (j + 1) (omega arith)) (leb-true _ _ h))
 
-  counter : (j : ℕ) → j < thresholds
-      → Between D j (m .sums .n .0 + 1) (counted (e .I) (leb (threshold j) Q) (activity (m .a) j) (getD (m .h) j 0)) (hung (e .I) (leb (threshold j) Q) (getD (m .h) j 0)) (takeOne e x)
-  unfolding takeOne countNext hangoverNext counted hung qn pn
+  counter : (j : ℕ) → j < thresholds → Between D j (m .sums .n .0 + 1) (countOf (e .I) Q m j) (hangOf (e .I) Q m j) (takeOne e x)
+  unfolding takeOne countNext hangoverNext counted hung countOf hangOf qn pn
   counter j l =
       let b = t .each j l in
       record {
@@ -170,28 +176,22 @@ module _ (D : ℕ) (m : State) (e : E) (x : ℤ) (k0 : 0 < e .K) (kG : e .K ≤ 
   P-max = smooth-le (e .K) (2 ^ 40) (m .sums .p) (size (e .o) x * 2 ^ 24) kG (t .p-max) (omega (arith, so))
 
   pub tied-step : Tied D (stateAfterOne (by e) m x) (takeOne e x)
-  unfolding stateAfterOne summed counts hangovers takeOne P Q W pn qn size distance
+  unfolding stateAfterOne summed counts hangovers countOf hangOf takeOne P Q W pn qn size distance
   tied-step =
       record {
         taken = ap (λ (i : ℕ). i + 1) (t .taken);
         power = two-of-words (twoWords (m .sums .sq) + size (e .o) x * size (e .o) x) ∙ ap (λ (s : ℕ). s + size (e .o) x * size (e .o) x) (t .power);
         p = p-near;
         q = q-near;
-        each = λ j l. subst (λ (h : ℕ). Between D j (m .sums .n .0 + 1) (activity (each thresholds (λ i. samplesOf (countOf i))) j) h (takeOne e x)) (sym (hang-at hangs j l))
-            (subst (λ (a : ℕ). Between D j (m .sums .n .0 + 1) a (hangs j) (takeOne e x)) (sym (count-at countOf j l)) (counter j l));
-        falls = λ j l. both-at countOf hangs countOf hangs (j + 1) j l (omega arith)
+        each = λ j l. subst (λ (h : ℕ). Between D j (m .sums .n .0 + 1) (activity (each thresholds (λ i. samplesOf (countOf (e .I) Q m i))) j) h (takeOne e x)) (sym (hang-at (hangOf (e .I) Q m) j l))
+            (subst (λ (a : ℕ). Between D j (m .sums .n .0 + 1) a (hangOf (e .I) Q m j) (takeOne e x)) (sym (count-at (countOf (e .I) Q m) j l)) (counter j l));
+        falls = λ j l. both-at (countOf (e .I) Q m) (hangOf (e .I) Q m) (countOf (e .I) Q m) (hangOf (e .I) Q m) (j + 1) j l (omega arith)
             (under-step (e .I) _ _ _ _ (leb (threshold (j + 1)) Q) (leb (threshold j) Q) (on-lower j) (t .falls j l));
         sum = omega (arith, abs-sum (m .sums .s) x, t .sum, sx);
         squares = le-trans (le-of-eq (two-of-words _)) (more (twoWords (m .sums .sq)) (m .sums .n .0) (size (e .o) x * size (e .o) x) (t .squares) (mul-le-mul so so));
         p-max = P-max;
         q-max = smooth-le (e .K) (2 ^ 40) (m .sums .q) P kG (t .q-max) P-max;
       }
-    where
-      countOf : ℕ → ℕ
-      countOf j = counted (e .I) (leb (threshold j) Q) (activity (m .a) j) (getD (m .h) j 0)
-
-      hangs : ℕ → ℕ
-      hangs j = hung (e .I) (leb (threshold j) Q) (getD (m .h) j 0)
 
 -- samples in order
 pub tied-samples : (D : ℕ) (xs : List ℤ) (m : State) (e : E) → 0 < e .K → e .K ≤ 2 ^ 20 → 2 ^ 21 ≤ D * e .K → SFits w16 (e .o) → AllSamples xs → Tied D m e

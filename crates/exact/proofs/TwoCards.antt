@@ -70,17 +70,19 @@ module _ (d : ℕ) (c c′ : Setting) (calls calls′ : List Call) (l : OneLine 
   alone : (i j : ℕ) → i < thresholds → j < thresholds → 2 ^ j + d ≤ 2 ^ i → meterCount c calls i ≤ meterCount c′ calls′ j
   alone i j k n h = meters .each i j k n (omega (arith, in-intervals i, in-intervals j, mul-le-mul-right interval h)) .count
 
+  -- the second meter's count against E's for the first
+  from-exact : (t j : ℕ) → j < thresholds → threshold j + dOf c′ + d * interval ≤ t → countAt (exactAfter c calls) t ≤ meterCount c′ calls′ j
+  from-exact t j k h = le-trans (exact-order t (threshold j + dOf c′) h) (second .at-least j k)
+
+  -- each clause with its own bound on thresholds to be shown, so that a wrong one is refused for what is false in it
   compared : Compared d c c′ calls calls′
   compared =
       record {
-        never-above = above;
-        exceeds-at-most = λ j k. omega (arith, first .at-most j k, above j k);
+        never-above = λ j k. from-exact _ j k (omega (arith, same-D));
+        exceeds-at-most = λ j k. omega (arith, first .at-most j k, from-exact (raised d c j) j k (omega (arith, same-D)));
         meters-alone = λ i j k n h. alone i j k n (omega (arith, h));
         next-threshold = λ j k h. alone (j + 1) j k (omega arith) (omega (arith, h, ap (λ (e : ℕ). 2 ^ e) (add-one j), two-pow-succ j));
       }
-    where
-      above : (j : ℕ) → j < thresholds → countAt (exactAfter c calls) (raised d c j) ≤ meterCount c′ calls′ j
-      above j k = le-trans (exact-order (raised d c j) (threshold j + dOf c′) (omega (arith, same-D))) (second .at-least j k)
 
 -- ---- exchanged
 

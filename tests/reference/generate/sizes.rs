@@ -93,17 +93,17 @@ fn steady(random: &mut Random, d: i64) -> [Sizes; 2] {
 /// A hump and then constant 2^j + d, and the same less d.
 ///
 /// Right after the hump p is just above the constant and q below it: q is over it from some far
-/// sample on, by ever less, and stays. A rounded envelope has come to rest under it by then. With e
-/// for what p is above and f for what q is below, that sample is about f / (e K / 2^20) after the
-/// hump. The larger d is beside 2^j, the longer the hump has to be for the same to hold of the
-/// second.
+/// sample on, by ever less, and stays. A rounded envelope has come to rest under it by then. With k
+/// for K / 2^20, e for what p is above and f for what q is below, as parts of the constant, that
+/// sample is about f / (e k) after the hump. The larger d is beside 2^j, the longer the hump has to
+/// be for the same to hold of the second.
 fn hump(random: &mut Random, rate: &Rate, d: i64) -> [Sizes; 2] {
     let least = (4..).find(|&j| 8 * d <= 1 << j).expect("d is small");
     let low = 1 << random.between(least, 13);
     let hump = 10 + 700 * d / low + random.below(20) as i64;
-    let K = rate.K as f64 / (1 << 20) as f64;
-    let left = (1.0 - K).powi(hump as i32);
-    let f = K * hump as f64 * left / (1.0 - left);
+    let k = rate.K as f64 / (1 << 20) as f64;
+    let left = (1.0 - k).powi(hump as i32);
+    let f = k * hump as f64 * left / (1.0 - left);
     let e = f / random.fraction_between(30.0, 45.0);
     let height = ((low + d) as f64 * (1.0 + e) / (1.0 - left)).ceil() as i64;
     let rest = random.between(1000, 1200) as usize;
