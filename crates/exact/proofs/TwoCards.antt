@@ -113,3 +113,15 @@ two-cards d c c′ calls calls′ t f f′ l =
       first = compared d c c′ calls calls′ l first second;
       exchanged = compared d c′ c calls′ calls (exchange d c c′ calls calls′ l) second first;
     }
+
+-- ---- what this says where d is 0, of every threshold
+
+-- the two meters count the same
+pub no-noise : {c c′ : Setting} {calls calls′ : List Call} → TwoCards 0 c c′ calls calls′ → (j : ℕ) → j < thresholds
+    → meterCount c calls j ≡ meterCount c′ calls′ j
+no-noise t j k = omega (arith, t .first .meters-alone j j k k (omega arith), t .exchanged .meters-alone j j k k (omega arith))
+
+-- a card against itself has demand 3's clause `at-least`
+pub against-itself : {c : Setting} {calls : List Call} → TwoCards 0 c c calls calls → (j : ℕ) → j < thresholds
+    → countAt (exactAfter c calls) (threshold j + dOf c) ≤ meterCount c calls j
+against-itself {c} {calls} t j k = subst (λ (n : ℕ). countAt (exactAfter c calls) n ≤ meterCount c calls j) (omega arith) (t .first .never-above j k)
