@@ -114,14 +114,24 @@ two-cards d c c′ calls calls′ t f f′ l =
       exchanged = compared d c′ c calls′ calls (exchange d c c′ calls calls′ l) second first;
     }
 
--- ---- what this says where d is 0, of every threshold
+-- ---- each clause used at its ends: at every threshold, both ways, and at the largest d that it allows
 
--- the two meters count the same
+-- where d is 0 the two meters count the same
 pub no-noise : {c c′ : Setting} {calls calls′ : List Call} → TwoCards 0 c c′ calls calls′ → (j : ℕ) → j < thresholds
     → meterCount c calls j ≡ meterCount c′ calls′ j
 no-noise t j k = omega (arith, t .first .meters-alone j j k k (omega arith), t .exchanged .meters-alone j j k k (omega arith))
 
--- a card against itself has demand 3's clause `at-least`
+-- and a card against itself has demand 3's clause `at-least`
 pub against-itself : {c : Setting} {calls : List Call} → TwoCards 0 c c calls calls → (j : ℕ) → j < thresholds
     → countAt (exactAfter c calls) (threshold j + dOf c) ≤ meterCount c calls j
 against-itself {c} {calls} t j k = subst (λ (n : ℕ). countAt (exactAfter c calls) n ≤ meterCount c calls j) (omega arith) (t .first .never-above j k)
+
+-- where E counts as much for the first card at the raised threshold as at the plain one, its meter's count is not above the second's
+pub no-excess : {d : ℕ} {c c′ : Setting} {calls calls′ : List Call} → TwoCards d c c′ calls calls′ → (j : ℕ) → j < thresholds
+    → countAt (exactAfter c calls) (threshold j) ≡ countAt (exactAfter c calls) (raised d c j) → meterCount c calls j ≤ meterCount c′ calls′ j
+no-excess t j k e = omega (arith, t .first .exceeds-at-most j k, e)
+
+-- where d is 2^j itself the first's count at the next threshold is not above the second's at c_j
+pub at-most-next : {c c′ : Setting} {calls calls′ : List Call} (j : ℕ) → TwoCards (2 ^ j) c c′ calls calls′ → j + 1 < thresholds
+    → meterCount c calls (j + 1) ≤ meterCount c′ calls′ j
+at-most-next j t k = t .first .next-threshold j k (omega arith)
