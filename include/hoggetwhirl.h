@@ -1,4 +1,4 @@
-/* Hoggetwhirl: the check of a sample block, for the host of a line. Link with libblock.a. */
+/* Hoggetwhirl: sample blocks checked and made, for a host in C. Link with libblock.a. */
 #ifndef HOGGETWHIRL_H
 #define HOGGETWHIRL_H
 
@@ -23,6 +23,9 @@ extern "C" {
  *
  * wi is the two-byte number at bytes 2i and 2i + 1. A check word is 0 to 65534. docs/METHOD.md,
  * "Sample blocks", works one block out and has the C code that fills the check words in.
+ *
+ * Neither function below keeps a state, allocates anything or makes a system call, so any number
+ * of threads may call them at once. Every call returns.
  */
 
 /*
@@ -46,11 +49,35 @@ extern "C" {
  *   9  an unused byte, after the samples and up to 507, is not zero
  *
  * The number of samples before the block is not looked at: only the meter knows the right one.
- *
- * The function keeps no state, allocates nothing and makes no system call, so any number of
- * threads may call it at once. Every call returns.
  */
 uint32_t hoggetwhirl_check_block(const uint8_t *block, size_t length, uint32_t code);
+
+/*
+ * Makes a sample block in a buffer.
+ *
+ * code     the rate code of the line.
+ * before   how many samples were measured before this block; any number is allowed.
+ * samples  the samples, as many as count says. They are read and never written, and nothing may
+ *          write to them until the call returns. Where count is 0 there is nothing to read, and
+ *          any pointer will do, NULL among them.
+ * count    how many samples; any number is allowed.
+ * buffer   the bytes that become the block, as many as length says, whatever they hold. Nothing
+ *          else may read or write them until the call returns, and the samples must not overlap
+ *          them. Where length is 0 any pointer will do, NULL among them.
+ * length   how long the buffer is; any number is allowed.
+ *
+ * Returns 0 where all 512 bytes of the buffer are now the block's, else the number of the first of
+ * these that applies, and then the buffer is as it was:
+ *
+ *   1   code names no rate: it is not 1, 2 or 3
+ *   4   the buffer is not 512 bytes long
+ *   18  count is not 1 to 248, or before and count together are more than 2^48
+ *
+ * The check of a block so made, with the same code, gives 0; and a meter of that rate that has
+ * measured as many samples as before says takes it.
+ */
+uint32_t hoggetwhirl_write_block(uint32_t code, uint64_t before, const int16_t *samples,
+                                 size_t count, uint8_t *buffer, size_t length);
 
 #ifdef __cplusplus
 }

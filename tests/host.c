@@ -1,48 +1,97 @@
-/* A line host: reads records from standard input to its end, each a rate code (4 bytes), a length
- * (2 bytes) and as many bytes, numbers little-endian, and prints what the check of the block says,
- * one number a line. The block lies in memory of its own exact size, so that a memory checker sees
- * any read past its end. */
+/* A line host: plays records from standard input, to its end, and prints a line for each. A record
+ * is a byte for its kind and then its fields, numbers little-endian:
+ *
+ *   8 check   rate code (4 bytes), length (2), bytes
+ *   9 write   rate code (4), samples before (8), count (2), samples (2 each), length (2)
+ *
+ * The line of a check is `check N`, N being what the function returned; that of a write is
+ * `write N` and, where the buffer has a byte, a space and the buffer in hexadecimal. The buffer is
+ * as long as the record's last field says, and holds bytes of 165 before the call. */
+#define _DEFAULT_SOURCE
 #include "hoggetwhirl.h"
+#include "lent.h"
 
 #include <inttypes.h>
-#include <stdio.h>
-#include <stdlib.h>
 
-static int read_number(int bytes, uint32_t *number)
+static void cut_short(void)
 {
-    *number = 0;
-    for (int i = 0; i < bytes; i++) {
-        int byte = getchar();
-        if (byte == EOF)
-            return 0;
-        *number |= (uint32_t)byte << (8 * i);
-    }
-    return 1;
+    fputs("a record is cut short, or of another kind\n", stderr);
+    exit(1);
 }
 
-static int answer(uint32_t code)
+static uint64_t read_number(int size)
 {
-    uint32_t length;
-    if (!read_number(2, &length))
-        return 0;
-    uint8_t *block = malloc(length ? length : 1);
-    if (!block || fread(block, 1, length, stdin) != length) {
-        free(block);
-        return 0;
+    uint64_t number = 0;
+    for (int i = 0; i < size; i++) {
+        int byte = getchar();
+        if (byte == EOF)
+            cut_short();
+        number |= (uint64_t)byte << (8 * i);
     }
-    printf("%" PRIu32 "\n", hoggetwhirl_check_block(block, length, code));
-    free(block);
-    return 1;
+    return number;
+}
+
+static struct lent read_bytes(size_t length)
+{
+    struct lent lent = lend(length);
+    if (fread(lent.bytes, 1, length, stdin) != length)
+        cut_short();
+    return lent;
+}
+
+static struct lent read_samples(size_t count)
+{
+    struct lent lent = lend(count * sizeof(int16_t));
+    int16_t *samples = (int16_t *)lent.bytes;
+    for (size_t i = 0; i < count; i++)
+        samples[i] = (int16_t)read_number(2);
+    return lent;
+}
+
+static void check(void)
+{
+    uint32_t code = (uint32_t)read_number(4);
+    struct lent block = read_bytes(read_number(2));
+    read_only(&block);
+    printf("check %" PRIu32 "\n", hoggetwhirl_check_block(block.bytes, block.length, code));
+    give_back(&block);
+}
+
+static void show(struct lent *buffer)
+{
+    if (buffer->length)
+        putchar(' ');
+    for (size_t i = 0; i < buffer->length; i++)
+        printf("%02x", buffer->bytes[i]);
+    putchar('\n');
+}
+
+static void write_block(void)
+{
+    uint32_t code = (uint32_t)read_number(4);
+    uint64_t before = read_number(8);
+    size_t count = read_number(2);
+    struct lent samples = read_samples(count);
+    struct lent buffer = lend(read_number(2));
+    for (size_t i = 0; i < buffer.length; i++)
+        buffer.bytes[i] = 165;
+    read_only(&samples);
+    printf("write %" PRIu32, hoggetwhirl_write_block(code, before, (const int16_t *)samples.bytes,
+                                                     count, buffer.bytes, buffer.length));
+    show(&buffer);
+    give_back(&samples);
+    give_back(&buffer);
 }
 
 int main(void)
 {
-    uint32_t code;
-    while (read_number(4, &code)) {
-        if (!answer(code)) {
-            fputs("a record is cut short\n", stderr);
-            return 1;
-        }
+    for (int kind = getchar(); kind != EOF; kind = getchar()) {
+        if (kind == 8)
+            check();
+        else if (kind == 9)
+            write_block();
+        else
+            cut_short();
     }
     return 0;
 }

@@ -166,8 +166,8 @@ fn refusal_18(before: u64, count: usize) -> bool {
 }
 
 /// The first of 1, 4 and 18 that applies to a write, else 0 (the customer's request L6).
-fn write_refusal(code: u8, before: u64, samples: &[i16], buffer: &[u8]) -> u32 {
-    if rate(u32::from(code)).is_none() {
+fn write_refusal(code: u32, before: u64, samples: &[i16], buffer: &[u8]) -> u32 {
+    if rate(code).is_none() {
         1
     } else if refusal_4(buffer) {
         4
@@ -180,10 +180,10 @@ fn write_refusal(code: u8, before: u64, samples: &[i16], buffer: &[u8]) -> u32 {
 
 /// Fills a lent buffer with a block: 0, or the refusal, which leaves the buffer untouched (the
 /// customer's request L6).
-pub fn write(code: u8, before: u64, samples: &[i16], buffer: &mut [u8]) -> u32 {
+pub fn write(code: u32, before: u64, samples: &[i16], buffer: &mut [u8]) -> u32 {
     let r = write_refusal(code, before, samples, buffer);
     if r == 0 {
-        buffer.copy_from_slice(&make(code, before, samples));
+        buffer.copy_from_slice(&make(code as u8, before, samples));
     }
     r
 }

@@ -4,8 +4,10 @@
 mod cards;
 mod crossings;
 mod highest;
+mod host;
 mod margins;
 mod offsets;
+mod recorded;
 mod writes;
 
 use crate::block;
@@ -37,6 +39,8 @@ pub fn figures() -> bool {
     highest::highest(&mut tally);
     margins::margins(&mut tally);
     writes::writes(&mut tally);
+    host::host(&mut tally);
+    recorded::recorded(&mut tally);
     cards::cards(&mut tally);
     doctored(&mut tally);
     tally.finish()

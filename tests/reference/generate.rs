@@ -17,13 +17,28 @@ mod sizes;
 mod thresholds;
 mod writes;
 
-use crate::records::{write_bytes, Record};
+use crate::block;
+use crate::rate::RATES;
+use crate::records::Record;
 use random::Random;
 
 /// The codes given with blocks to the host's check.
 const HOST_CODES: [u32; 12] = [0, 1, 2, 3, 4, 5, 255, 256, 257, 258, 259, u32::MAX];
 
-/// Those of them that one byte holds.
+/// Further ones, which would name a rate by their low half, or but for their highest byte or bit,
+/// or with their bytes reversed.
+const WIDE_CODES: [u32; 8] = [
+    0x0001_0001,
+    0x0001_0002,
+    0x0001_0003,
+    0x0100_0001,
+    0x0200_0002,
+    0x0300_0003,
+    0x8000_0001,
+    0x0100_0000,
+];
+
+/// Those of the first that one byte holds.
 const BYTE_CODES: [u32; 7] = [0, 1, 2, 3, 4, 5, 255];
 
 /// The records or the recording of one kind; None for an unknown kind.
@@ -82,13 +97,21 @@ fn lev(seed: u64, count: u64) -> Vec<u8> {
     out
 }
 
-/// Blocks with codes of four bytes, for the host's check.
+/// Blocks with codes of four bytes, for the host's check, sound ones with further codes, and then
+/// writes with all these codes.
 fn host(seed: u64, count: u64) -> Vec<u8> {
     let mut out = Vec::new();
-    blocks::all(seed, count, &HOST_CODES, &mut |code, bytes| {
-        out.extend(code.to_le_bytes());
-        write_bytes(bytes, &mut out);
-    });
+    let mut check = |code: u32, bytes: &[u8]| {
+        Record::Check(code, bytes.to_vec()).write_for_host(&mut out);
+    };
+    blocks::all(seed, count, &HOST_CODES, &mut check);
+    for code in WIDE_CODES {
+        for rate in &RATES {
+            check(code, &block::make(rate.code, 0, &[1]));
+        }
+    }
+    let codes = [&HOST_CODES[..], &WIDE_CODES].concat();
+    writes::for_host(seed, count, &codes, &mut out);
     out
 }
 
@@ -96,7 +119,7 @@ fn host(seed: u64, count: u64) -> Vec<u8> {
 fn check(seed: u64, count: u64) -> Vec<u8> {
     let mut out = Vec::new();
     blocks::all(seed, count, &BYTE_CODES, &mut |code, bytes| {
-        Record::Check(code as u8, bytes.to_vec()).write(&mut out);
+        Record::Check(code, bytes.to_vec()).write(&mut out);
     });
     out
 }

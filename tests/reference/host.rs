@@ -1,16 +1,17 @@
-//! The check of the line host written in C, over a list of codes and blocks.
+//! The calls of the line host written in C, each with its answer.
 
-use crate::block;
 use crate::records::Reader;
+use crate::replay::Player;
 
-/// Answers each record of code (four bytes), length (two) and bytes; None where one is cut short.
+/// Answers each check and each write, one line each; None where a record is cut short or of
+/// another kind.
 pub fn host(bytes: &[u8]) -> Option<String> {
     let mut reader = Reader::new(bytes);
+    let mut player = Player::new();
     let mut lines = String::new();
     while !reader.at_end() {
-        let code = reader.number(4)? as u32;
-        let block = reader.bytes()?;
-        lines += &format!("{}\n", block::host(code, &block));
+        lines += &player.answer(&reader.host_record()?);
+        lines += "\n";
     }
     Some(lines)
 }

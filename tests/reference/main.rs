@@ -37,17 +37,18 @@ mod written;
 
 use speech::{hum, vehicle};
 use std::io::{self, Read, Write};
+use std::num::NonZeroUsize;
 use std::process::ExitCode;
 
 /// Said of a script that cannot be played to its end.
 const BAD_RECORD: &str = "the script has a bad record";
 
 /// The commands.
-const COMMANDS: &str = "replay | report | host | generate KIND SEED COUNT | blocks CODE | \
-    noise D SEED | figures | exact | counts | samples | largest | crossed | chosen | margins | \
-    agrees SCRIPT OUTPUT | written SCRIPT OUTPUT | cards SCRIPT OUTPUT SCRIPT OUTPUT | \
-    compared RECORDING OUTPUT RECORDING OUTPUT | clause11 script | clause11 check OUTPUT | \
-    speech ...";
+const COMMANDS: &str = "replay | report | host | generate KIND SEED COUNT | blocks CODE [K] | \
+    recorded CODE | noise D SEED | figures | exact | counts | samples | largest | crossed | \
+    chosen | margins | agrees SCRIPT OUTPUT | written SCRIPT OUTPUT | \
+    cards SCRIPT OUTPUT SCRIPT OUTPUT | compared RECORDING OUTPUT RECORDING OUTPUT | \
+    clause11 script | clause11 check OUTPUT | speech ...";
 
 /// Everything on standard input.
 fn input() -> io::Result<Vec<u8>> {
@@ -177,9 +178,15 @@ fn speech(arguments: &[&str]) -> io::Result<bool> {
     }
 }
 
-/// Sound blocks of the samples on standard input.
-fn blocks(code: &str) -> io::Result<bool> {
-    output(&block::pack(rate_of(code)?.code, &samples(&input()?)?))
+/// Sound blocks of the samples on standard input, of the first and every K-th after it.
+fn blocks(code: &str, every: &str) -> io::Result<bool> {
+    let rate = rate_of(code)?;
+    let every: NonZeroUsize = every
+        .parse()
+        .or_else(|_| error("K is a number from 1 on"))?;
+    let samples = samples(&input()?)?.into_iter();
+    let taken: Vec<i16> = samples.step_by(every.get()).collect();
+    output(&block::pack(rate.code, &taken))
 }
 
 /// The samples on standard input with noise.
@@ -196,9 +203,14 @@ fn run(arguments: &[&str]) -> io::Result<bool> {
     match arguments {
         ["replay"] => output(replay::replay(&input()?).as_bytes()),
         ["report"] => output(report::report(&input()?).as_bytes()),
-        ["host"] => lines(host::host(&input()?), "a record is cut short"),
+        ["host"] => lines(
+            host::host(&input()?),
+            "a record is cut short, or neither a check nor a write",
+        ),
         ["generate", kind, seed, count] => generate(kind, seed, count),
-        ["blocks", code] => blocks(code),
+        ["blocks", code] => blocks(code, "1"),
+        ["blocks", code, every] => blocks(code, every),
+        ["recorded", code] => output(&measurement::recorded(rate_of(code)?, &input()?)),
         ["noise", most, seed] => noise(most, seed),
         ["figures"] => Ok(figures::figures()),
         ["exact"] => counted(compare::exact(&input()?)),

@@ -1,8 +1,9 @@
-//! One whole measurement: an opening, its samples in chunks, a report and a show.
+//! One whole measurement: an opening, its samples in chunks or in blocks, a report and a show.
 
 use crate::meter::{Meter, Report, MOST_IN_CHUNK};
 use crate::printed;
-use crate::records::Record;
+use crate::rate::Rate;
+use crate::records::{block_calls, Record};
 use crate::setting::Setting;
 
 /// A step in decibels: 1/4096 of a doubling of power (the customer's scope, "The level logarithm").
@@ -53,14 +54,28 @@ fn levels(report: &Report) -> Levels {
     }
 }
 
-/// Writes the records of a measurement.
-pub fn write(setting: Setting, samples: &[i16], out: &mut Vec<u8>) {
+/// Writes the records of a measurement by these calls.
+fn write_calls(setting: Setting, calls: impl Iterator<Item = Record>, out: &mut Vec<u8>) {
     Record::Open(setting).write(out);
-    for chunk in samples.chunks(MOST_IN_CHUNK) {
-        Record::Chunk(chunk.to_vec()).write(out);
+    for call in calls {
+        call.write(out);
     }
     Record::Report.write(out);
     Record::Show.write(out);
+}
+
+/// Writes the records of a measurement of samples in chunks.
+pub fn write(setting: Setting, samples: &[i16], out: &mut Vec<u8>) {
+    let chunks = samples.chunks(MOST_IN_CHUNK);
+    let calls = chunks.map(|chunk| Record::Chunk(chunk.to_vec()));
+    write_calls(setting, calls, out);
+}
+
+/// The script of one measurement of a recording of blocks.
+pub fn recorded(rate: &Rate, recording: &[u8]) -> Vec<u8> {
+    let mut out = Vec::new();
+    write_calls(Setting::usual(rate.code), block_calls(recording), &mut out);
+    out
 }
 
 /// Reads the next lines as those of a measurement of so many samples.

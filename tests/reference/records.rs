@@ -1,8 +1,16 @@
 //! The records of a recorded list of calls, read and written; numbers are little-endian.
 
+mod writing;
+
+use crate::block;
 use crate::meter::Meter;
 use crate::setting::Setting;
-use std::fmt;
+pub use writing::Writing;
+
+/// How many bytes the code of a check or of a write has: in a script to play, and in one for the
+/// host written in C.
+const PLAYED_CODE: usize = 1;
+const HOST_CODE: usize = 4;
 
 /// One record.
 pub enum Record {
@@ -13,41 +21,8 @@ pub enum Record {
     Load(Meter),
     Show,
     Lev(u128),
-    Check(u8, Vec<u8>),
+    Check(u32, Vec<u8>),
     Write(Writing),
-}
-
-/// What a block is written from, and the length of the buffer that is lent for it.
-#[derive(Clone)]
-pub struct Writing {
-    pub code: u8,
-    pub before: u64,
-    pub samples: Vec<i16>,
-    pub length: u16,
-}
-
-impl Writing {
-    /// A code, a number before, samples and a length.
-    pub fn new(code: u8, before: u64, samples: &[i16], length: u16) -> Writing {
-        Writing {
-            code,
-            before,
-            samples: samples.to_vec(),
-            length,
-        }
-    }
-}
-
-impl fmt::Display for Writing {
-    /// In words, with the number of samples for the samples.
-    fn fmt(&self, out: &mut fmt::Formatter) -> fmt::Result {
-        let (code, before) = (self.code, self.before);
-        let (count, length) = (self.samples.len(), self.length);
-        write!(
-            out,
-            "code {code}, {before} before, {count} samples, {length} bytes"
-        )
-    }
 }
 
 /// Bytes read from the front; each reading is None where they are cut short.
@@ -148,14 +123,32 @@ impl<'a> Reader<'a> {
         })
     }
 
-    /// What a block is written from, and the length of the buffer.
-    fn writing(&mut self) -> Option<Writing> {
+    /// What a block is written from, with a code of so many bytes, and the length of the buffer.
+    fn writing(&mut self, code_length: usize) -> Option<Writing> {
         Some(Writing {
-            code: self.number(1)? as u8,
+            code: self.number(code_length)? as u32,
             before: self.number(8)?,
             samples: self.chunk()?,
             length: self.number(2)? as u16,
         })
+    }
+
+    /// A check or a write, with a code of so many bytes; None also where it is of another kind.
+    fn host_call(&mut self, kind: u64, code_length: usize) -> Option<Record> {
+        match kind {
+            8 => {
+                let code = self.number(code_length)? as u32;
+                Some(Record::Check(code, self.bytes()?))
+            }
+            9 => Some(Record::Write(self.writing(code_length)?)),
+            _ => None,
+        }
+    }
+
+    /// One record for the host; None also where it is neither a check nor a write.
+    pub fn host_record(&mut self) -> Option<Record> {
+        let kind = self.number(1)?;
+        self.host_call(kind, HOST_CODE)
     }
 
     /// One record; None also where the first byte is unknown.
@@ -168,9 +161,7 @@ impl<'a> Reader<'a> {
             5 => Some(Record::Load(self.meter()?)),
             6 => Some(Record::Show),
             7 => Some(Record::Lev(self.two_words()?)),
-            8 => Some(Record::Check(self.number(1)? as u8, self.bytes()?)),
-            9 => Some(Record::Write(self.writing()?)),
-            _ => None,
+            kind => self.host_call(kind, PLAYED_CODE),
         }
     }
 }
@@ -195,13 +186,19 @@ pub fn read_samples(bytes: &[u8]) -> Option<Vec<i16>> {
     reader.at_end().then_some(samples)
 }
 
+/// The block calls of a recording of blocks; a short last block counts as one, as it is.
+pub fn block_calls(recording: &[u8]) -> impl Iterator<Item = Record> + '_ {
+    let blocks = recording.chunks(block::LENGTH);
+    blocks.map(|bytes| Record::Block(bytes.to_vec()))
+}
+
 /// The high and the low word of a number.
 pub fn words(number: u128) -> (u64, u64) {
     ((number >> 64) as u64, number as u64)
 }
 
 /// Writes a length of two bytes and the bytes.
-pub fn write_bytes(bytes: &[u8], out: &mut Vec<u8>) {
+fn write_bytes(bytes: &[u8], out: &mut Vec<u8>) {
     out.extend((bytes.len() as u16).to_le_bytes());
     out.extend(bytes);
 }
@@ -242,9 +239,17 @@ fn write_meter(meter: &Meter, out: &mut Vec<u8>) {
     }
 }
 
-/// Writes what a block is written from, and the length of the buffer.
-fn write_writing(writing: &Writing, out: &mut Vec<u8>) {
-    out.push(writing.code);
+/// Writes a code of so many bytes, which hold it.
+fn write_code(code: u32, length: usize, out: &mut Vec<u8>) {
+    let bytes = code.to_le_bytes();
+    let held = bytes[length..].iter().all(|&byte| byte == 0);
+    assert!(held, "code {code} in {length} bytes");
+    out.extend(&bytes[..length]);
+}
+
+/// Writes what a block is written from, with a code of so many bytes, and the length of the buffer.
+fn write_writing(writing: &Writing, code_length: usize, out: &mut Vec<u8>) {
+    write_code(writing.code, code_length, out);
     out.extend(writing.before.to_le_bytes());
     write_chunk(&writing.samples, out);
     out.extend(writing.length.to_le_bytes());
@@ -253,6 +258,16 @@ fn write_writing(writing: &Writing, out: &mut Vec<u8>) {
 impl Record {
     /// Writes the record.
     pub fn write(&self, out: &mut Vec<u8>) {
+        self.write_coded(PLAYED_CODE, out);
+    }
+
+    /// Writes the record, a check or a write, for the host.
+    pub fn write_for_host(&self, out: &mut Vec<u8>) {
+        self.write_coded(HOST_CODE, out);
+    }
+
+    /// Writes the record, the code of a check or of a write in so many bytes.
+    fn write_coded(&self, code_length: usize, out: &mut Vec<u8>) {
         match self {
             Record::Open(setting) => {
                 out.push(1);
@@ -277,12 +292,13 @@ impl Record {
                 write_words(*number, out);
             }
             Record::Check(code, bytes) => {
-                out.extend([8, *code]);
+                out.push(8);
+                write_code(*code, code_length, out);
                 write_bytes(bytes, out);
             }
             Record::Write(writing) => {
                 out.push(9);
-                write_writing(writing, out);
+                write_writing(writing, code_length, out);
             }
         }
     }

@@ -38,7 +38,7 @@ impl Player {
                 Some(level) => format!("lev {level}"),
                 None => "lev none".to_string(),
             },
-            Record::Check(code, bytes) => format!("check {}", block::host(u32::from(*code), bytes)),
+            Record::Check(code, bytes) => format!("check {}", block::host(*code, bytes)),
             Record::Write(writing) => {
                 let (r, buffer) = writing.answer();
                 write_line(r, &buffer)

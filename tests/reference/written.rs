@@ -115,8 +115,8 @@ impl Claims {
     }
 
     /// The host's check of the block last written, with its own code, finds nothing wrong.
-    fn checked(&mut self, k: usize, code: u8, bytes: &[u8], line: &str) {
-        if self.block.as_deref() == Some(bytes) && block::code(bytes) == u32::from(code) {
+    fn checked(&mut self, k: usize, code: u32, bytes: &[u8], line: &str) {
+        if self.block.as_deref() == Some(bytes) && block::code(bytes) == code {
             self.occurs(CHECKED);
             self.holds(k, "the check of a written block", line == "check 0");
         }

@@ -46,6 +46,10 @@ pub record Written : Type 0 where
 abbrev pub writtenBy : Answer → (buffer : List ℕ) → Written
 writtenBy r buffer = record { number = numberGiven r; buffer = buffer }
 
+-- what a host in C is told, with the buffer
+abbrev pub toldWith : (number : ℕ) → (buffer : List ℕ) → Written
+toldWith r buffer = record { number = r; buffer = buffer }
+
 -- accepted, the buffer holds the block; refused, what it held
 unfoldable pub writeCall : (code before : ℕ) → List ℤ → (buffer : List ℕ) → Written
 writeCall code before xs buffer =

@@ -1,5 +1,6 @@
 // Sample blocks (METHOD.md, "Sample blocks"): why one is refused, the part that carries its
-// samples, the check that the line host calls, and a block made from samples.
+// samples, a block made from samples, and the two calls of a host in C, which checks blocks and
+// makes them.
 mod checks;
 mod fields;
 mod writing;
@@ -11,6 +12,7 @@ ghost use Rattle.refusal.specs.First.{firstOf};
 ghost use Rattle.refusal.specs.Number.{numberGiven};
 ghost use Rattle.block.specs.Block.{rateCode, before as beforeIn};
 ghost use Rattle.block.specs.Refusals.{wrongCount, usedUnused, blockRules, sound, samplesPart, hostCheck};
+ghost use Rattle.block.specs.Written.{toldWith, writeCall};
 use refusal::Answer;
 use refusal::Refusal;
 pub use writing::write;
@@ -94,7 +96,8 @@ fn refused_count(block: &[u8]) -> Answer
     Answer::Accepted
 }
 
-// The check for the line host, which is written in C: include/hoggetwhirl.h describes it.
+// The check for the line host, which is written in C. include/hoggetwhirl.h describes this call and
+// the next.
 #[no_mangle]
 pub extern "C" fn hoggetwhirl_check_block(block: &[u8], code: u32) -> u32
     ensures { λ r. ⌜ r ≡ hostCheck (now (block .entry)) code ⌝ }
@@ -103,4 +106,18 @@ pub extern "C" fn hoggetwhirl_check_block(block: &[u8], code: u32) -> u32
         return refusal::number(Refusal::UnnamedRate);
     }
     refusal::given(refused(block, code))
+}
+
+// Making a block, for a host in C.
+#[no_mangle]
+pub extern "C" fn hoggetwhirl_write_block(
+    code: u32,
+    before: u64,
+    samples: &[i16],
+    buffer: &mut [u8],
+) -> u32
+    ensures { λ r. ⌜ toldWith r (now (buffer .exit)) ≡ writeCall code before (now (samples .entry)) (now (buffer .entry)) ⌝ }
+{
+    let answer = write(code, before, samples, buffer);
+    refusal::given(answer)
 }

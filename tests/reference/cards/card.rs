@@ -4,7 +4,7 @@ use crate::block;
 use crate::exact::Exact;
 use crate::printed;
 use crate::rate::rate;
-use crate::records::Record;
+use crate::records::{block_calls, Record};
 use crate::report::RATE;
 use crate::setting::Setting;
 use crate::tally::Tally;
@@ -105,8 +105,7 @@ pub fn recorded(tally: &mut Tally, name: &str, recording: &[u8], output: &str) -
     let measured = printed::measured(output);
     tally.holds(&format!("{name}: n and counts"), measured.is_some());
     let (n, a) = measured?;
-    let blocks = recording.chunks(block::LENGTH);
-    let calls: Vec<Record> = blocks.map(|bytes| Record::Block(bytes.to_vec())).collect();
+    let calls: Vec<Record> = block_calls(recording).collect();
     let card = Card::open(Setting::usual(RATE.code), a)?;
     Some(card.given(tally, name, &calls, n))
 }

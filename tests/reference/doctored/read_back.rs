@@ -20,7 +20,7 @@ pub fn read_back(tally: &mut Tally) {
 
 /// A check with a code, then a block and a chunk of samples, each on a meter.
 struct Calls {
-    code: u8,
+    code: u32,
     bytes: Vec<u8>,
     samples: Vec<i16>,
     meters: [Meter; 2],
@@ -33,7 +33,7 @@ impl Calls {
         let (_, bytes) = writing.answer();
         let meter = Meter {
             n: writing.before,
-            ..Meter::open(Setting::usual(writing.code)).0
+            ..Meter::open(Setting::usual(writing.code as u8)).0
         };
         Calls {
             code: writing.code,
@@ -139,7 +139,7 @@ fn afresh(tally: &mut Tally) {
 fn not_afresh(tally: &mut Tally) {
     let own = |code, before, samples: &[i16]| {
         let bytes = block::make(code, before, samples);
-        (bytes, Writing::new(code, before, samples, 512))
+        (bytes, Writing::new(u32::from(code), before, samples, 512))
     };
     let (bytes, writing) = own(2, 7, &[1]);
     let other = |code, before, x, length| {

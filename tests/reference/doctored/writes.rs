@@ -157,7 +157,7 @@ pub fn exchanged(given: u32, right: u32) -> Vec<&'static str> {
 /// with a code that is not named and with a buffer that is too long.
 fn accepted(tally: &mut Tally) {
     let ones = |before, count, length| Writing::new(1, before, &vec![1; count], length);
-    let own = |w: &Writing| block::make(w.code, w.before, &w.samples);
+    let own = |w: &Writing| block::make(w.code as u8, w.before, &w.samples);
     let full = own(&ones(0, 248, 512));
     let long = [&own(&ones(0, 1, 512))[..], &[165]].concat();
     let rows = [

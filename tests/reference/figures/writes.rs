@@ -18,7 +18,7 @@ const EXAMPLE: [u8; 16] = [9, 1, 0, 0, 0, 0, 0, 0, 0, 0, 1, 0, 0xff, 0x7f, 0, 2]
 const END: u64 = 1 << 48;
 
 /// A code, a number before, a number of samples and the length of a buffer.
-type Row = (u8, u64, usize, u16);
+type Row = (u32, u64, usize, u16);
 
 /// Every figure.
 pub fn writes(tally: &mut Tally) {
@@ -144,7 +144,7 @@ fn read_back(tally: &mut Tally) {
         let (fresh, _) = Meter::open(Setting::usual(rate.code));
         let (mut by_block, mut by_chunk) = (fresh.clone(), fresh);
         for samples in voice(rate, 1)[..4000].chunks(248) {
-            let writing = Writing::new(rate.code, by_block.n, samples, 512);
+            let writing = Writing::new(u32::from(rate.code), by_block.n, samples, 512);
             (by_block, _) = by_block.block(&writing.answer().1);
             (by_chunk, _) = by_chunk.chunk(samples);
         }

@@ -110,7 +110,7 @@ impl Blocks<'_> {
     /// Right check words of zero, and 65535 stored in their place.
     fn zero_check_words(&mut self) {
         for wanted in [(0, 1), (1, 0), (0, 0)] {
-            let own = self.random.between(1, 3) as u8;
+            let own = self.random.named();
             let base = sound(&mut self.random, own, 0, 248);
             let sealed = tuned(&base, wanted);
             self.add(own, &sealed);
@@ -129,7 +129,7 @@ impl Blocks<'_> {
     /// Sound blocks and damaged ones in turn.
     fn random_blocks(&mut self, count: u64) {
         for i in 0..count {
-            let own = self.random.between(1, 3) as u8;
+            let own = self.random.named();
             let before = self.random.next() >> self.random.below(64);
             let samples = self.random.between(1, 248);
             let mut bytes = sound(&mut self.random, own, before, samples);

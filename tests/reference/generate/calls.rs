@@ -8,7 +8,7 @@ use super::script::Script;
 use super::settings::{refused_setting, setting, MARGINS, REFUSED_MARGINS};
 use super::signals::{around, furthest, noise, placed, signal};
 use super::thresholds::{approach, targets};
-use super::writes::writing;
+use super::writes::{writing, CODES};
 use crate::block;
 use crate::meter::{Meter, MOST_IN_CHUNK, MOST_SAMPLES};
 use crate::percent::{difference, WHOLE};
@@ -162,7 +162,7 @@ fn refused_block(script: &mut Script) {
 
 /// A block written, which changes no meter.
 fn write(script: &mut Script) {
-    let record = Record::Write(writing(&mut script.random));
+    let record = Record::Write(writing(&mut script.random, &CODES));
     script.add(record);
     script.add(Record::Show);
 }
@@ -200,7 +200,7 @@ fn pair(script: &mut Script) {
 
 /// A meter, and the samples that bring its envelope to a target, with none or a few after them.
 fn brought(script: &mut Script, target: u64) {
-    let code = script.named();
+    let code = script.random.named();
     let (meter, mut call) = approach(&mut script.random, code, target);
     script.add(Record::Load(meter));
     let more = script.random.pick(&[0, 0, 1, 3]);
@@ -216,7 +216,7 @@ fn brought(script: &mut Script, target: u64) {
 
 /// One of the meters at the bounds of refusal 2.
 fn bound(script: &mut Script) {
-    let code = script.named();
+    let code = script.random.named();
     let mut meters = bounds(&mut script.random, code);
     let i = script.random.below(meters.len() as u64) as usize;
     tried(script, meters.swap_remove(i));
@@ -224,7 +224,7 @@ fn bound(script: &mut Script) {
 
 /// A meter of some making, and its report.
 fn reported(script: &mut Script, make: impl Fn(&mut Random, u8) -> Meter) {
-    let code = script.named();
+    let code = script.random.named();
     let meter = make(&mut script.random, code);
     script.add(Record::Load(meter));
     script.add(Record::Report);

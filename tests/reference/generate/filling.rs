@@ -7,7 +7,7 @@ use crate::records::Record;
 
 /// A meter whose sq is just below 2^64, and samples that bring it past, whatever the offset.
 pub fn two_words(script: &mut Script) {
-    let code = script.named();
+    let code = script.random.named();
     let n = (1 << 34) + script.random.below(1 << 34);
     let sq = (1u128 << 64) - u128::from(script.random.between(1, 1 << 31));
     let meter = Meter {
@@ -28,7 +28,7 @@ pub fn two_words(script: &mut Script) {
 
 /// A meter of 2^48 - k samples, its totals at the bounds or not.
 fn nearly_full(script: &mut Script, k: u64) -> Meter {
-    let code = script.named();
+    let code = script.random.named();
     let meter = plausible(&mut script.random, code);
     let n = MOST_SAMPLES - k;
     let most = i128::from(n) << 15;

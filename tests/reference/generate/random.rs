@@ -52,6 +52,11 @@ impl Random {
         things[self.below(things.len() as u64) as usize]
     }
 
+    /// A named code.
+    pub fn named(&mut self) -> u8 {
+        self.between(1, 3) as u8
+    }
+
     /// A fraction from 0 up to but not including 1, in 53 bits.
     fn fraction(&mut self) -> f64 {
         (self.next() >> 11) as f64 / (1u64 << 53) as f64

@@ -32,11 +32,6 @@ impl Script {
         &self.player.meter
     }
 
-    /// A named code.
-    pub fn named(&mut self) -> u8 {
-        self.random.between(1, 3) as u8
-    }
-
     /// Adds a record.
     pub fn add(&mut self, record: Record) {
         record.write(&mut self.bytes);

@@ -3,14 +3,13 @@
 use super::blocks::{sound, tuned};
 use super::meters::of_samples;
 use super::random::Random;
-use super::script::Script;
 use super::signals::noise;
 use crate::block;
 use crate::meter::MOST_SAMPLES;
-use crate::records::{Record, Writing};
+use crate::records::{script, Record, Writing};
 
-/// Codes, named and not.
-const CODES: [u8; 6] = [1, 2, 3, 0, 4, 255];
+/// Codes of one byte, named and not.
+pub const CODES: [u32; 6] = [1, 2, 3, 0, 4, 255];
 
 /// Numbers of samples: none, at the bounds, next to them, such that the low byte alone is within
 /// them, and many.
@@ -24,38 +23,172 @@ const CHECK_WORDS: [u64; 3] = [0, 1, 65534];
 
 /// A script of writes: every kind in turn, then so many random ones; most blocks are read back.
 pub fn writes(seed: u64, count: u64) -> Vec<u8> {
-    let mut script = Script::new(seed);
-    single_samples(&mut script);
-    numbers(&mut script);
-    lengths(&mut script);
-    longest(&mut script);
-    check_words(&mut script);
-    for _ in 0..count {
-        if script.random.once_in(4) {
-            let bytes = any_block(&mut script.random);
-            afresh(&mut script, bytes);
-        } else {
-            let writing = writing(&mut script.random);
-            write(&mut script, writing);
+    let mut out = Vec::new();
+    let mut emit = |random: &mut Random, record: Record| {
+        record.write(&mut out);
+        let block = written(&record).filter(|_| !random.once_in(3));
+        if let Some((writing, bytes)) = block {
+            out.extend(script(&read_back(random, writing, bytes)));
+        }
+    };
+    Writes::new(seed, &CODES, &mut emit).all(count);
+    out
+}
+
+/// The same kinds of writes for the host, with these codes, and a few more; every block that is
+/// written is checked.
+pub fn for_host(seed: u64, count: u64, codes: &[u32], out: &mut Vec<u8>) {
+    let mut emit = |_: &mut Random, record: Record| {
+        record.write_for_host(out);
+        if let Some((writing, bytes)) = written(&record) {
+            Record::Check(writing.code, bytes).write_for_host(out);
+        }
+    };
+    let mut writes = Writes::new(seed, codes, &mut emit);
+    writes.steady();
+    writes.all(count);
+}
+
+/// What a block is written from, and the block, where a record is a write that is accepted.
+fn written(record: &Record) -> Option<(&Writing, Vec<u8>)> {
+    let Record::Write(writing) = record else {
+        return None;
+    };
+    let (r, bytes) = writing.answer();
+    (r == 0).then_some((writing, bytes))
+}
+
+/// The host's check of a written block; the block and, on the same meter, a chunk of its samples,
+/// each with what it leaves.
+fn read_back(random: &mut Random, writing: &Writing, bytes: Vec<u8>) -> [Record; 7] {
+    let meter = of_samples(random, writing.code as u8, writing.before);
+    [
+        Record::Check(writing.code, bytes.clone()),
+        Record::Load(meter.clone()),
+        Record::Block(bytes),
+        Record::Show,
+        Record::Load(meter),
+        Record::Chunk(writing.samples.clone()),
+        Record::Show,
+    ]
+}
+
+/// Hands out writes, some of them after a check.
+struct Writes<'a> {
+    random: Random,
+    codes: &'a [u32],
+    emit: &'a mut dyn FnMut(&mut Random, Record),
+}
+
+impl<'a> Writes<'a> {
+    /// Nothing handed out yet.
+    fn new(
+        seed: u64,
+        codes: &'a [u32],
+        emit: &'a mut dyn FnMut(&mut Random, Record),
+    ) -> Writes<'a> {
+        Writes {
+            random: Random::new(seed),
+            codes,
+            emit,
         }
     }
-    script.bytes
-}
 
-/// The scope's example, and samples with which the first or the second check word is 0 or 65534.
-fn single_samples(script: &mut Script) {
-    for x in [32767, -259, -260, -1058, 15591] {
-        write(script, Writing::new(1, 0, &[x], 512));
+    /// Every kind in turn, then so many random ones.
+    fn all(&mut self, count: u64) {
+        self.single_samples();
+        self.numbers();
+        self.lengths();
+        self.longest();
+        self.check_words();
+        for _ in 0..count {
+            if self.random.once_in(4) {
+                let bytes = any_block(&mut self.random);
+                self.afresh(bytes);
+            } else {
+                let writing = writing(&mut self.random, self.codes);
+                self.write(writing);
+            }
+        }
     }
-}
 
-/// Every number of samples with every number before.
-fn numbers(script: &mut Script) {
-    for count in COUNTS {
-        for before in befores(count) {
-            let code = script.named();
-            let samples = samples(&mut script.random, count);
-            write(script, Writing::new(code, before, &samples, 512));
+    /// Hands out a write.
+    fn write(&mut self, writing: Writing) {
+        (self.emit)(&mut self.random, Record::Write(writing));
+    }
+
+    /// A sound block, checked, and a write from its own contents.
+    fn afresh(&mut self, bytes: Vec<u8>) {
+        let (code, before) = (block::code(&bytes), block::before(&bytes));
+        let writing = Writing::new(code, before, &block::samples(&bytes), 512);
+        (self.emit)(&mut self.random, Record::Check(code, bytes));
+        self.write(writing);
+    }
+
+    /// The scope's example, and samples with which the first or the second check word is 0 or
+    /// 65534.
+    fn single_samples(&mut self) {
+        for x in [32767, -259, -260, -1058, 15591] {
+            self.write(Writing::new(1, 0, &[x], 512));
+        }
+    }
+
+    /// Every number of samples with every number before.
+    fn numbers(&mut self) {
+        for count in COUNTS {
+            for before in befores(count) {
+                let code = u32::from(self.random.named());
+                let samples = samples(&mut self.random, count);
+                self.write(Writing::new(code, before, &samples, 512));
+            }
+        }
+    }
+
+    /// Every code with every length, where 18 would not refuse and where it would.
+    fn lengths(&mut self) {
+        for &code in self.codes {
+            for length in LENGTHS {
+                for (before, count) in [(0, 1), (0, 0), (MOST_SAMPLES, 1), (u64::MAX, 249)] {
+                    let samples = samples(&mut self.random, count);
+                    self.write(Writing::new(code, before, &samples, length));
+                }
+            }
+        }
+    }
+
+    /// The most samples and the longest buffer that a record can have.
+    fn longest(&mut self) {
+        for (count, length) in [(65535, 512), (248, 65535), (65535, 65535)] {
+            let samples = samples(&mut self.random, count);
+            self.write(Writing::new(1, 0, &samples, length));
+        }
+    }
+
+    /// Blocks of two samples, of the most and of some with every pair of those check words.
+    fn check_words(&mut self) {
+        for first in CHECK_WORDS {
+            for second in CHECK_WORDS {
+                let some = self.random.between(3, 247);
+                for count in [2, 248, some] {
+                    let code = self.random.named();
+                    let before = self.random.next() >> 17;
+                    let base = sound(&mut self.random, code, before, count);
+                    self.afresh(tuned(&base, (first, second)));
+                }
+            }
+        }
+    }
+
+    /// Blocks of one value throughout, after 248 samples and with an end one below 2^48.
+    fn steady(&mut self) {
+        for x in [0, -1, i16::MIN, i16::MAX] {
+            for count in [1, 2, 247, 248] {
+                for before in [248, MOST_SAMPLES - 1 - count] {
+                    let code = u32::from(self.random.named());
+                    let samples = vec![x; count as usize];
+                    self.write(Writing::new(code, before, &samples, 512));
+                }
+            }
         }
     }
 }
@@ -77,44 +210,9 @@ fn befores(count: u64) -> [u64; 10] {
     ]
 }
 
-/// Every code with every length, where 18 would not refuse and where it would.
-fn lengths(script: &mut Script) {
-    for code in CODES {
-        for length in LENGTHS {
-            for (before, count) in [(0, 1), (0, 0), (MOST_SAMPLES, 1), (u64::MAX, 249)] {
-                let samples = samples(&mut script.random, count);
-                write(script, Writing::new(code, before, &samples, length));
-            }
-        }
-    }
-}
-
-/// The most samples and the longest buffer that a record can have.
-fn longest(script: &mut Script) {
-    for (count, length) in [(65535, 512), (248, 65535), (65535, 65535)] {
-        let samples = samples(&mut script.random, count);
-        write(script, Writing::new(1, 0, &samples, length));
-    }
-}
-
-/// Blocks of two samples, of the most and of some with every pair of those check words.
-fn check_words(script: &mut Script) {
-    for first in CHECK_WORDS {
-        for second in CHECK_WORDS {
-            let some = script.random.between(3, 247);
-            for count in [2, 248, some] {
-                let code = script.named();
-                let before = script.random.next() >> 17;
-                let base = sound(&mut script.random, code, before, count);
-                afresh(script, tuned(&base, (first, second)));
-            }
-        }
-    }
-}
-
 /// A sound block: one in three with such check words.
 fn any_block(random: &mut Random) -> Vec<u8> {
-    let code = random.between(1, 3) as u8;
+    let code = random.named();
     let any = random.between(1, 248);
     let count = random.pick(&[1, 2, 247, 248, any, any, any, any]);
     let before = before(random, count);
@@ -127,41 +225,13 @@ fn any_block(random: &mut Random) -> Vec<u8> {
     }
 }
 
-/// A sound block, checked, and a write from its own contents.
-fn afresh(script: &mut Script, bytes: Vec<u8>) {
-    let code = block::code(&bytes) as u8;
-    let writing = Writing::new(code, block::before(&bytes), &block::samples(&bytes), 512);
-    script.add(Record::Check(code, bytes));
-    write(script, writing);
-}
-
-/// A write and, of three blocks that are written two, what reads the block back.
-fn write(script: &mut Script, writing: Writing) {
-    let (r, bytes) = writing.answer();
-    script.add(Record::Write(writing.clone()));
-    if r == 0 && !script.random.once_in(3) {
-        read_back(script, writing, bytes);
-    }
-}
-
-/// The host's check of a written block; the block and, on the same meter, a chunk of its samples,
-/// each with what it leaves.
-fn read_back(script: &mut Script, writing: Writing, bytes: Vec<u8>) {
-    script.add(Record::Check(writing.code, bytes.clone()));
-    let meter = of_samples(&mut script.random, writing.code, writing.before);
-    for call in [Record::Block(bytes), Record::Chunk(writing.samples)] {
-        script.add(Record::Load(meter.clone()));
-        script.add(call);
-        script.add(Record::Show);
-    }
-}
-
-/// What to write a block from: about half of the time what is accepted.
-pub fn writing(random: &mut Random) -> Writing {
+/// What to write a block from, with a named code or one of these: about half of the time what is
+/// accepted.
+pub fn writing(random: &mut Random, codes: &[u32]) -> Writing {
     let code = if random.once_in(8) {
-        random.pick(&CODES)
+        random.pick(codes)
     } else {
-        random.between(1, 3) as u8
+        u32::from(random.named())
     };
     let count = count(random);
     let before = before(random, count);

@@ -75,7 +75,7 @@ impl Write<'_> {
 
     /// Whether the code is a named one: 1 does not apply.
     fn named(&self) -> bool {
-        rate(u32::from(self.writing.code)).is_some()
+        rate(self.writing.code).is_some()
     }
 
     /// Whether the buffer has the length of a block: 4 does not apply.
@@ -146,7 +146,7 @@ impl Write<'_> {
 /// A sound block has the contents that one is to be written from.
 fn contents(writing: &Writing, bytes: &[u8]) -> [Clause; 3] {
     [
-        ("the code", block::code(bytes) == u32::from(writing.code)),
+        ("the code", block::code(bytes) == writing.code),
         ("the number before", block::before(bytes) == writing.before),
         ("the samples", block::samples(bytes) == writing.samples),
     ]
