@@ -54,6 +54,15 @@ impl Source {
         }
     }
 
+    // Whether all of the input was read.
+    pub fn has_ended(self) -> bool {
+        let coming = self.coming;
+        match coming {
+            Coming::End => true,
+            Coming::More | Coming::Failed(_) => false,
+        }
+    }
+
     // How many bytes of the input were used.
     pub fn place(self) -> u64 {
         std::num::wrapping_sub_u64(self.read, self.unused() as u64)

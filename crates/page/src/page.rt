@@ -1,7 +1,8 @@
 // A page: a lent buffer in which whole lines wait, so that many go out by one write and no write has
 // part of a line. A page of 4096 bytes, which a pipe takes whole, keeps its lines whole also where
 // several programs write into one pipe or one log. A longer line than a page comes in pieces: only the
-// line that shows a buffer of more than 513 bytes is put so.
+// line that shows a buffer of more than 513 bytes is put so. In `blocks` what waits are blocks, on a
+// page of its own size.
 use crate::text;
 use libc::STDOUT_FILENO;
 

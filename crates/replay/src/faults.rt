@@ -1,7 +1,6 @@
 // What `replay` says where a run ends early.
 use crate::Going;
 use crate::Run;
-use input::Coming;
 use input::Streams;
 
 // A word on the command line.
@@ -28,8 +27,7 @@ pub fn ended(run: Run, k: u64, lines: &mut [u8]) {
 // A record that the input ends inside of is bad; one that could not be read is not judged.
 fn cut(streams: Streams, k: u64, place: u64, lines: &mut [u8]) -> Streams {
     let source = streams.source;
-    let coming = source.coming;
-    if let Coming::End = coming {
+    if source.has_ended() {
         let mut line = [0u8; 128];
         let used = began(&mut line, k, place);
         let used = page::words(&mut line, used, b"the input ends inside it\n");

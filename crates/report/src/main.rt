@@ -3,7 +3,6 @@
 // measurement and, where there is a level, one with the activity as a percentage. Where not all of the
 // input could be read, or not all lines written, standard error says so, and the closing lines are not
 // printed.
-use input::Coming;
 use input::Streams;
 use level::Samples;
 use level::Squares;
@@ -98,28 +97,19 @@ fn block_ahead(bytes: &[u8], streams: Streams) -> &[u8] {
         if 512 <= source.unused() {
             return input::ahead(bytes, source, 512);
         }
-        if has_ended(streams) {
+        if source.has_ended() {
             return input::ahead(bytes, source, 512);
         }
     }
     &bytes[0..0]
 }
 
-// Whether all of the input was read.
-fn has_ended(streams: Streams) -> bool {
-    let source = streams.source;
-    let coming = source.coming;
-    match coming {
-        Coming::End => true,
-        Coming::More | Coming::Failed(_) => false,
-    }
-}
-
 // Whether all of the input was read, and no write has failed.
 fn is_whole(streams: Streams) -> bool {
+    let source = streams.source;
     let page = streams.page;
     if page.is_well() {
-        return has_ended(streams);
+        return source.has_ended();
     }
     false
 }
