@@ -55,9 +55,8 @@ fn fill(code: u32, before: u64, samples: &[i16], buffer: &mut [u8])
     seal(buffer);
 }
 
-// The fields before the samples.
+// The fields before the samples, as far as there is room.
 fn head(code: u32, before: u64, count: usize, buffer: &mut [u8])
-    requires { ⌜ length (now buffer) ≡ 512 ⌝ }
     ensures { λ _. ⌜ now (buffer .exit) ≡ sets (now (buffer .entry)) 0 (bytesOf 1 1 ++ bytesOf 1 code ++ bytesOf 2 count ++ bytesOf 8 before) ⌝ }
 {
     coding::put_number(buffer, 0, 1, 1);
