@@ -1,7 +1,8 @@
 /* Memory of an exact size, to be lent to a call. Built with HEAP it is malloc's, and NULL where there
  * is no byte: the address sanitizer then sees what C code does with it, but not what Rattle
  * compiled. Else a page that may not be touched follows it, or with BEFORE comes before it, and
- * what is lent to be read can't be written: any wrong access ends the program. */
+ * what is lent to be read can't be written: an access on that side, or such a write, ends the
+ * program. */
 #ifndef LENT_H
 #define LENT_H
 

@@ -22,7 +22,7 @@ use crate::rate::RATES;
 use crate::records::Record;
 use random::Random;
 
-/// The codes given with blocks to the host's check.
+/// The codes given to the host's check and to its writes.
 const HOST_CODES: [u32; 12] = [0, 1, 2, 3, 4, 5, 255, 256, 257, 258, 259, u32::MAX];
 
 /// Further ones, which would name a rate by their low half, or but for their highest byte or bit,

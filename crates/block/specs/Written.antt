@@ -42,13 +42,13 @@ pub record Written : Type 0 where
   pub number : ℕ
   pub buffer : List ℕ
 
--- what an answer says, with the buffer
-abbrev pub writtenBy : Answer → (buffer : List ℕ) → Written
-writtenBy r buffer = record { number = numberGiven r; buffer = buffer }
-
--- what a host in C is told, with the buffer
+-- the number that a host in C is told, with the buffer
 abbrev pub toldWith : (number : ℕ) → (buffer : List ℕ) → Written
 toldWith r buffer = record { number = r; buffer = buffer }
+
+-- what an answer says, with the buffer
+abbrev pub writtenBy : Answer → (buffer : List ℕ) → Written
+writtenBy r buffer = toldWith (numberGiven r) buffer
 
 -- accepted, the buffer holds the block; refused, what it held
 unfoldable pub writeCall : (code before : ℕ) → List ℤ → (buffer : List ℕ) → Written

@@ -26,8 +26,8 @@ pub fn read() -> Words {
     Words::Good(Asked { code, k })
 }
 
-// The number that a word is: 1 where there is no such word. 0, which neither word may be, stands for a
-// word that is not a number.
+// The number that a word is: 1 where there is no such word. 0, which neither word may be, stands for one
+// that is no number or is longer than 32 bytes.
 fn word(i: usize) -> u32 {
     if os::arg_count() <= i {
         return 1;

@@ -1,5 +1,5 @@
 // The blocks program: makes sample blocks (METHOD.md, "Sample blocks") on standard output from samples on
-// standard input, two bytes each, the low byte first.
+// standard input, signed, two bytes each, the low byte first.
 //
 //   blocks [CODE [K]]
 //
@@ -20,21 +20,22 @@ fn main() {
     let words = arguments::read();
     match words {
         Words::Good(asked) => {
-            // One read has 16384 samples at most. With 247 in hand they fill 67 blocks, and the rest one
-            // more: the page has room for those 68, so that each read is followed by one write.
+            // One read has 16384 samples at most. With 247 in hand they fill 67 blocks, for which the
+            // page has room, so that what one read fills is one write.
             let mut bytes = [0u8; 32768];
             let mut samples = [0i16; 248];
-            let mut blocks = [0u8; 34816];
+            let mut blocks = [0u8; 34304];
             let all = packed(asked, &mut bytes, &mut samples, &mut blocks);
             packing::closed(asked.code, all, &samples, &mut blocks);
         }
         Words::Bad => page::told(
-            b"blocks takes at most two words, a rate code, 1, 2 or 3, and a number k from 1 to 999999999: it reads samples of two bytes from standard input, and writes sample blocks of the first of them and every k-th after it\n",
+            b"blocks takes at most two words, a rate code, 1, 2 or 3, and a number k from 1 to 999999999: it reads signed samples of two bytes, the low byte first, from standard input, and writes sample blocks of the first of them and every k-th after it\n",
         ),
     }
 }
 
-// Packs the whole input, but for the samples of the last block, which are then in hand.
+// Packs the whole input, but for the samples of the last block, which are then in hand. No input has so
+// many turns as are counted: the count is there to show that the loop ends.
 fn packed(asked: Asked, bytes: &mut [u8], samples: &mut [i16], blocks: &mut [u8]) -> Packing {
     let mut all = Packing::new();
     let mut turns: u64 = 0;

@@ -26,7 +26,8 @@ impl Packing {
     }
 }
 
-// The packing with a piece of the input more, as much as fits the block at hand.
+// The packing with a piece of the input more, as much as fits the block at hand. Where no whole sample
+// is ahead, no more can be read, or a write failed.
 pub fn turn(
     asked: Asked,
     all: Packing,
@@ -38,7 +39,8 @@ pub fn turn(
     let before = all.before;
     let waiting = all.streams;
     let streams = waiting.ready(bytes, blocks, 2);
-    if !has_sample(streams) {
+    let source = streams.source;
+    if source.unused() < 2 {
         return Packing {
             taking,
             before,
@@ -47,16 +49,6 @@ pub fn turn(
         };
     }
     taken(asked, taking, before, streams, bytes, samples, blocks)
-}
-
-// Whether a whole sample is ahead, and no write has failed.
-fn has_sample(streams: Streams) -> bool {
-    let source = streams.source;
-    let page = streams.page;
-    if page.is_well() {
-        return 2 <= source.unused();
-    }
-    false
 }
 
 // The packing with the samples ahead, and with the block at hand where it is full.

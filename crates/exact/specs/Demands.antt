@@ -91,7 +91,8 @@ Numbered rules k = Given rules k × Lowest rules k
 
 pub record Demand1 : Type 0 where
   -- "every call ends": the check proves of every function that it returns. `Meter::open`, `Meter::chunk`, `Meter::block`, `Meter::report`,
-  -- `hoggetwhirl_check_block` and `write` of `block` have no `requires`: they return for every argument whatever
+  -- `write` of `block`, and `hoggetwhirl_check_block` and `hoggetwhirl_write_block`, which are for C, have no `requires`: they return for every
+  -- argument whatever
   -- "wrap a sum or spoil a running measurement"
   pub nothing-lost : (c : Setting) (calls : List Call) → TypedOffset c → Opens c → Typed calls → NothingLost c calls
   -- "whatever is wrong gets the refusal that document 01 numbers for it"
@@ -112,8 +113,8 @@ pub record Demand1 : Type 0 where
   pub zeros-block : (m : Meter) → Zeros m → (b : List ℕ) → blockCall m b .number ≡ 2
   pub zeros-report : (m : Meter) → Zeros m → reportCall m .number ≡ 2
   -- "writes into nothing lent": `Meter::chunk` and `Meter::block` are lent `&[i16]` and `&[u8]`, which nothing can be written through, and
-  -- `hoggetwhirl_check_block` too. Of the calls that a host makes, `write` alone is lent a buffer to write into: as his request L6 has it, "A refusal
-  -- leaves the buffer untouched"
+  -- `hoggetwhirl_check_block` too. Of the calls that a host makes, `write`, or from C `hoggetwhirl_write_block`, which has the same outcome, alone is
+  -- lent a buffer to write into: as his request L6 has it, "A refusal leaves the buffer untouched"
   pub write-refused : (code n : ℕ) (xs : List ℤ) (buffer : List ℕ) → 0 < writeCall code n xs buffer .number → writeCall code n xs buffer .buffer ≡ buffer
 
 -- ---- demand 2: "Nothing reported may differ from method B"

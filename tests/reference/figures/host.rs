@@ -4,7 +4,6 @@ use crate::block;
 use crate::generate::generate;
 use crate::host::host as answers;
 use crate::tally::Tally;
-use std::collections::BTreeSet;
 
 /// A check of three bytes with code 1.
 const CHECK: [u8; 10] = [8, 1, 0, 0, 0, 3, 0, 7, 8, 9];
@@ -88,18 +87,12 @@ fn other_kinds(tally: &mut Tally) {
     }
 }
 
-/// In a script that is generated every answer occurs, even without a random record, and after each
-/// block that is written there is its check.
+/// In a script that is generated the check of each block that is written comes after it.
 fn generated(tally: &mut Tally) {
     let script = generate("host", 1, 0).expect("a kind of script");
     let lines = answers(&script).expect("no record is bad");
-    let lines: Vec<Vec<&str>> = lines.lines().map(|l| l.split(' ').collect()).collect();
-    let found: BTreeSet<String> = lines.iter().map(|words| words[..2].join(" ")).collect();
-    let checks = [0, 1, 4, 5, 6, 7, 8, 9].map(|r| format!("check {r}"));
-    let writes = [0, 1, 4, 18].map(|r| format!("write {r}"));
-    let expected = checks.into_iter().chain(writes).collect();
-    tally.equal("host, answers", found, expected);
+    let lines: Vec<&str> = lines.lines().collect();
     let mut pairs = lines.windows(2);
-    let checked = pairs.all(|p| p[0][..2] != ["write", "0"] || p[1] == ["check", "0"]);
+    let checked = pairs.all(|pair| !pair[0].starts_with("write 0 ") || pair[1] == "check 0");
     tally.holds("host, written and checked", checked);
 }
