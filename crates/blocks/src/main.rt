@@ -1,9 +1,9 @@
 // The blocks program: makes sample blocks (METHOD.md, "Sample blocks") on standard output from samples on
 // standard input, signed, two bytes each, the low byte first.
 //
-//   blocks [CODE [K]]
+//   blocks [CODE [k]]
 //
-// CODE is the rate code of the blocks. The first sample is taken and every K-th after it, and the others
+// CODE is the rate code of the blocks. The first sample is taken and every k-th after it, and the others
 // are left out. Both are 1 where they are not given. A block holds 248 of the samples taken, the last one
 // the rest. A bad word on the command line, an odd byte at the end of the input, and a failure to read or
 // to write have a line on standard error; the samples that came before are in blocks all the same, as far

@@ -78,7 +78,7 @@ fn taken(
 }
 
 // The packing with a block more, of samples behind so many others. One that would end above 2^48 is not
-// made, and nothing comes after it.
+// made, and nothing comes after it; so the number of samples in blocks never wraps.
 fn made(
     code: u32,
     before: u64,
