@@ -19,9 +19,10 @@ struct meter {
     double squares;
     double p;
     double q; /* envelope */
-    double c[THRESHOLDS];
-    int a[THRESHOLDS]; /* activity counts */
-    int h[THRESHOLDS]; /* hangover counts */
+    int count;        /* how many thresholds there are */
+    double c[PLACES]; /* the thresholds */
+    int a[PLACES];    /* activity counts */
+    int h[PLACES];    /* hangover counts */
 };
 
 struct meter *meter_open(const struct rate *rate, int16_t offset)
@@ -31,8 +32,9 @@ struct meter *meter_open(const struct rate *rate, int16_t offset)
         .g = exp(-1.0 / (rate->samples_per_second * time_constant)),
         .offset = offset / full_scale,
         .hangover = (int)ceil(rate->samples_per_second * hangover_time),
+        .count = BUILT_IN,
     };
-    for (int j = 0; j < THRESHOLDS; j++) {
+    for (int j = 0; j < m.count; j++) {
         m.c[j] = ldexp(1.0, j) / full_scale;
         m.h[j] = m.hangover;
     }
@@ -41,7 +43,7 @@ struct meter *meter_open(const struct rate *rate, int16_t offset)
 
 static inline void count_sample(struct meter *m)
 {
-    for (int j = 0; j < THRESHOLDS; j++) {
+    for (int j = 0; j < m->count; j++) {
         if (m->q >= m->c[j]) {
             m->a[j] += 1;
             m->h[j] = 0;
@@ -69,7 +71,7 @@ void meter_take(struct meter *m, const int16_t *samples, size_t count)
 void meter_print(const struct meter *m)
 {
     printf("%ld %.6f %.6f", m->n, m->sum, m->squares);
-    for (int j = 0; j < THRESHOLDS; j++)
+    for (int j = 0; j < m->count; j++)
         printf(" %d", m->a[j]);
     putchar('\n');
 }

@@ -7,20 +7,28 @@
 struct meter *meter_open(const struct rate *rate, int16_t offset)
 {
     static struct meter m;
-    m = (struct meter){.rate = *rate, .offset = offset};
-    /* Used up at first, or the meter would count 0.2 s of speech before any came. */
-    for (int j = 0; j < THRESHOLDS; j++)
+    m = (struct meter){.rate = *rate, .offset = offset, .count = BUILT_IN};
+    for (int j = 0; j < m.count; j++) {
+        m.c[j] = (uint64_t)1 << (j + UNIT_BITS);
+        /* Used up at first, or the meter would count 0.2 s of speech before any came. */
         m.h[j] = rate->i;
+    }
     return &m;
+}
+
+static void print_places(const uint64_t numbers[PLACES])
+{
+    for (int j = 0; j < PLACES; j++)
+        printf(" %" PRIu64, numbers[j]);
 }
 
 void meter_print(const struct meter *m)
 {
-    printf("%" PRIu64 " %" PRId64 " %" PRIu64 " %" PRIu64 " %" PRIu64 " %" PRIu64, m->n, m->s,
+    printf("%d", m->count);
+    print_places(m->c);
+    printf(" %" PRIu64 " %" PRId64 " %" PRIu64 " %" PRIu64 " %" PRIu64 " %" PRIu64, m->n, m->s,
            m->sq_high, m->sq_low, m->p, m->q);
-    for (int j = 0; j < THRESHOLDS; j++)
-        printf(" %" PRIu64, m->a[j]);
-    for (int j = 0; j < THRESHOLDS; j++)
-        printf(" %" PRIu64, m->h[j]);
+    print_places(m->a);
+    print_places(m->h);
     putchar('\n');
 }

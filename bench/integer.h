@@ -12,21 +12,17 @@ enum { SMOOTHING_BITS = 20, UNIT_BITS = 24 };
 struct meter {
     struct rate rate;
     int16_t offset;
+    int count;          /* how many thresholds there are */
+    uint64_t c[PLACES]; /* the thresholds, in the units of the envelope */
     uint64_t n;
     int64_t s;
     uint64_t sq_high; /* the sum of squares, which a long measurement takes past 64 bits */
     uint64_t sq_low;
     uint64_t p;
     uint64_t q;
-    uint64_t a[THRESHOLDS]; /* activity counts */
-    uint64_t h[THRESHOLDS]; /* hangover counts */
+    uint64_t a[PLACES]; /* activity counts */
+    uint64_t h[PLACES]; /* hangover counts */
 };
-
-/* Threshold j, in the units of the envelope. */
-static inline uint64_t threshold(int j)
-{
-    return (uint64_t)1 << (j + UNIT_BITS);
-}
 
 /* One exponential average: moves old towards new by k / 2^20 of the way, rounding down. */
 static inline uint64_t smooth(uint64_t k, uint64_t old, uint64_t new)

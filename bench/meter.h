@@ -6,7 +6,9 @@
 #include <stddef.h>
 #include <stdint.h>
 
-enum { THRESHOLDS = 15, CHUNK = 4096 };
+/* A meter holds a list of at most PLACES thresholds. All are opened with the built-in list, BUILT_IN of
+ * them. */
+enum { PLACES = 24, BUILT_IN = 15, CHUNK = 4096 };
 
 struct rate {
     double samples_per_second;

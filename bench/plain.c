@@ -1,4 +1,4 @@
-/* The definitions to the letter: every sample is counted at all fifteen thresholds. */
+/* The definitions to the letter: every sample is counted at every threshold. */
 #include "integer.h"
 
 /* Everything a sample changes except the counts. */
@@ -14,8 +14,8 @@ static inline void step_sums(struct meter *m, int16_t x)
 
 static inline void count_sample(struct meter *m)
 {
-    for (int j = 0; j < THRESHOLDS; j++) {
-        if (m->q >= threshold(j)) {
+    for (int j = 0; j < m->count; j++) {
+        if (m->q >= m->c[j]) {
             m->a[j] += 1;
             m->h[j] = 0;
         } else if (m->h[j] < m->rate.i) {

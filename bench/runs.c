@@ -14,23 +14,24 @@ struct band {
 
 /* The index up to which each counter is up to date. */
 struct indices {
-    size_t since[THRESHOLDS];
+    size_t since[PLACES];
 };
 
-static const struct band lowest = {0, (uint64_t)1 << UNIT_BITS, 0};
-
-/* The band around an envelope. Thresholds are doubled out: upwards from the band that it was in,
- * downwards from the first again. */
-static struct band around(struct band was, uint64_t q)
+/* The band around an envelope, from the band that it was in, up or down the list one threshold at a
+ * time. */
+static struct band around(const struct meter *m, struct band band, uint64_t q)
 {
-    if (was.low <= q && q < was.high)
-        return was;
-    struct band from = q < was.low ? lowest : was;
-    uint64_t c = from.high;
-    int j = from.below;
-    for (; c <= q; c *= 2)
-        j++;
-    return (struct band){j == 0 ? 0 : c / 2, c, j < THRESHOLDS ? j : THRESHOLDS};
+    while (band.high <= q) {
+        band.low = band.high;
+        band.below++;
+        band.high = band.below < m->count ? m->c[band.below] : UINT64_MAX;
+    }
+    while (q < band.low) {
+        band.high = band.low;
+        band.below--;
+        band.low = band.below > 0 ? m->c[band.below - 1] : 0;
+    }
+    return band;
 }
 
 /* Brings the counters from one place up to another up to date at an index. The envelope was at or
@@ -90,11 +91,11 @@ void meter_take(struct meter *m, const int16_t *samples, size_t count)
     struct indices c = {{0}};
     struct moving v = {m->s, 0, m->p, m->q};
     step(&v, m->rate.k, m->offset, samples[0]);
-    struct band band = around(lowest, v.q);
+    struct band band = around(m, (struct band){0, m->c[0], 0}, v.q);
     size_t at = 0;
     while (at < count) {
         at = step_inside(&v, m->rate.k, m->offset, band, samples, at + 1, count);
-        struct band next = around(band, v.q);
+        struct band next = around(m, band, v.q);
         if (band.below < next.below)
             settle(m, &c, band.below, next.below, 0, at);
         else
@@ -102,7 +103,7 @@ void meter_take(struct meter *m, const int16_t *samples, size_t count)
         band = next;
     }
     settle(m, &c, 0, band.below, 1, at);
-    settle(m, &c, band.below, THRESHOLDS, 0, at);
+    settle(m, &c, band.below, m->count, 0, at);
     m->n += count;
     m->s = v.s;
     add_squares(m, v.sq);

@@ -24,7 +24,7 @@ fn numbers(meter: &Meter, given: u32) -> [Clause; 6] {
     let started = meter.n > 0;
     let heard = started && meter.sq > 0;
     let active = heard && meter.a[0] > 0;
-    let crossed = active && (0..15).any(|j| meter.crossing_at(j));
+    let crossed = active && meter.crossings().next().is_some();
     let no_crossing = |sign| active && !crossed && meter.d(0).map(i64::signum) == Some(sign);
     let rows = [
         (0, "0 just where a crossing is", crossed),

@@ -3,7 +3,6 @@
 
 mod card;
 
-use crate::meter::c;
 use crate::records::read;
 use crate::tally::Tally;
 use card::{played, recorded, Card};
@@ -42,33 +41,48 @@ struct Way<'a> {
 }
 
 impl Way<'_> {
-    /// E's count for the first card at c_j raised by d intervals and some units.
+    /// The list of the second meter (the customer's request L8).
+    fn list(&self) -> &[u64] {
+        self.second.list()
+    }
+
+    /// E's count for the first card at c_j of the second's list, raised by d intervals and some
+    /// units.
     fn raised(&self, j: usize, d: u64, units: u64) -> u64 {
-        self.first.exact.count(c(j) + (d << 24) + units)
+        self.first.exact.count(self.list()[j] + (d << 24) + units)
     }
 
     /// E's count for the first card at a threshold raised so is not above the second meter's count
     /// at the plain one, at each of them.
     fn bounded(&self, d: u64, units: u64) -> bool {
-        (0..15).all(|j| self.raised(j, d, units) <= self.second.a[j])
+        let mut places = 0..self.list().len();
+        places.all(|j| self.raised(j, d, units) <= self.second.a[j])
     }
 
-    /// The clauses at j: the request's own (the customer's request L7); that the first meter's
-    /// count exceeds the second's by at most E's own difference for the first; and, of the meters
-    /// alone, that the first's count is not above the second's where it is of a threshold d
-    /// intervals or more higher.
+    /// The first meter's count at each of its own thresholds that is of some kind.
+    fn counts<'a>(&'a self, of_kind: impl Fn(u64) -> bool + 'a) -> impl Iterator<Item = u64> + 'a {
+        let counts = self.first.list().iter().zip(&self.first.a);
+        let found = counts.filter(move |(&c_i, _)| of_kind(c_i));
+        found.map(|(_, &a_i)| a_i)
+    }
+
+    /// The clauses at j of the second's list: the request's own (the customer's request L7); that
+    /// the first meter's count, where its list has that threshold, exceeds the second's by at most
+    /// E's own difference for the first; and, of the meters alone, that the first's count is not
+    /// above the second's where it is of a threshold d intervals or more higher.
     fn clauses(&self, j: usize, d: u64) -> [(&'static str, bool); 3] {
+        let (c_j, b_j) = (self.list()[j], self.second.a[j]);
         let raised = self.raised(j, d, self.first.exact.rate.D());
-        let difference = self.first.exact.count(c(j)) - raised;
-        let (a, b) = (&self.first.a, &self.second.a);
-        let mut higher = (0..15).filter(|&i| (1 << j) + d <= 1 << i);
+        let difference = self.first.exact.count(c_j) - raised;
+        let mut same = self.counts(|c_i| c_i == c_j);
+        let mut higher = self.counts(|c_i| c_i >= c_j + (d << 24));
         [
-            ("E's count at the raised threshold", raised <= b[j]),
+            ("E's count at the raised threshold", raised <= b_j),
             (
                 "the excess of the count",
-                a[j].saturating_sub(b[j]) <= difference,
+                same.all(|a_i| a_i.saturating_sub(b_j) <= difference),
             ),
-            ("the counts d apart", higher.all(|i| a[i] <= b[j])),
+            ("the counts d apart", higher.all(|a_i| a_i <= b_j)),
         ]
     }
 }
@@ -112,7 +126,7 @@ impl Pair {
     /// Every clause, both ways round.
     fn check(&self, tally: &mut Tally) {
         for way in self.ways() {
-            for j in 0..15 {
+            for j in 0..way.list().len() {
                 for (clause, holds) in way.clauses(j, self.d) {
                     tally.holds(&format!("{}, j {j}: {clause}", way.name), holds);
                 }
@@ -132,7 +146,8 @@ impl Pair {
     fn sharpness(&self, way: &Way) -> [(String, bool); 3] {
         let (d, D, name) = (self.d, self.D(), way.name);
         let raised = |j| way.raised(j, d, D);
-        let mut equal = (0..15).filter(|&j| raised(j) == way.second.a[j]);
+        let places = 0..way.list().len();
+        let mut equal = places.filter(|&j| raised(j) == way.second.a[j]);
         [
             (
                 format!("breaks at d - 1, {name}"),
@@ -155,6 +170,9 @@ impl Pair {
         ];
         let found = [
             ("margins differ", setting.margin != second.setting.margin),
+            ("lists differ", first.list() != second.list()),
+            ("shortest list", first.list().len() == 14),
+            ("longest list", first.list().len() == 24),
             ("refused first", first.refused),
             ("refused second", second.refused),
             ("cut differently", first.cut != second.cut),
@@ -177,7 +195,7 @@ impl Pair {
             let (a, b) = (first.a[j], second.a[j]);
             format!("| {j} | {a} | {b} | {} | {} |", raised[0], raised[1])
         };
-        let rows = (0..15).map(row);
+        let rows = (0..second.list().len()).map(row);
         [format!("d {}", self.d)].into_iter().chain(rows).collect()
     }
 }

@@ -17,8 +17,8 @@ const OF_A_LIST: &str = "a record of a list";
 struct Comparison {
     /// E, if the last opening was one to accept.
     exact: Option<Exact>,
-    /// The margin of the last opening, which E is not fed.
-    margin: i64,
+    /// What the last opening was given; E is not fed its margin nor its list.
+    setting: Setting,
     /// The meter last shown, if no call came after it.
     shown: Option<Meter>,
     tally: Tally,
@@ -29,7 +29,7 @@ impl Comparison {
     fn new() -> Comparison {
         Comparison {
             exact: None,
-            margin: 0,
+            setting: Setting::zero(),
             shown: None,
             tally: Tally::new(),
         }
@@ -39,8 +39,8 @@ impl Comparison {
     fn line(&mut self, k: usize, record: &Record, line: &str) {
         let shown = self.shown.take();
         let name = format!("record {k}: {line}:");
-        if let Record::Open(setting) = record {
-            return self.open(&name, setting, line);
+        if let Record::Open(opening) = record {
+            return self.open(&name, opening.setting(), line);
         }
         let tally = &mut self.tally;
         let Some(exact) = &mut self.exact else {
@@ -49,7 +49,7 @@ impl Comparison {
         match record {
             Record::Chunk(samples) => call(tally, &name, exact.chunk(samples), line, "chunk"),
             Record::Block(bytes) => call(tally, &name, exact.block(bytes), line, "block"),
-            Record::Show => self.shown = show(tally, &name, exact, self.margin, line),
+            Record::Show => self.shown = show(tally, &name, exact, &self.setting, line),
             Record::Report => {
                 report(tally, &name, exact, shown.as_ref(), line);
                 self.shown = shown;
@@ -59,15 +59,15 @@ impl Comparison {
     }
 
     /// An opening is accepted, or refused with its number, just where it is to be; E is fed the code
-    /// and the offset (the customer's scope, "One sample"; the customer's requests L2 and L5).
-    fn open(&mut self, name: &str, setting: &Setting, line: &str) {
+    /// and the offset (the customer's scope, "One sample"; the customer's requests L2, L5 and L8).
+    fn open(&mut self, name: &str, setting: Setting, line: &str) {
         let r = setting.refusal();
         let right = line == format!("open {r}");
         self.tally
             .holds(&format!("{name} the opening's answer"), right);
         let rate = rate(u32::from(setting.code)).filter(|_| r == 0);
         self.exact = rate.map(|rate| Exact::open(rate, setting.offset));
-        self.margin = setting.margin;
+        self.setting = setting;
     }
 }
 
@@ -94,20 +94,29 @@ fn call(tally: &mut Tally, name: &str, accepted: bool, line: &str, word: &str) {
 
 /// The clauses of demand 3 about a meter, with what was chosen at opening, its total and its sums;
 /// gives the meter where it is one to report on.
-fn show(tally: &mut Tally, name: &str, exact: &Exact, margin: i64, line: &str) -> Option<Meter> {
+fn show(
+    tally: &mut Tally,
+    name: &str,
+    exact: &Exact,
+    opened: &Setting,
+    line: &str,
+) -> Option<Meter> {
     let meter = printed::meter(line);
-    tally.holds(&format!("{name} 39 values"), meter.is_some());
+    tally.holds(&format!("{name} 82 values"), meter.is_some());
     let meter = meter?;
+    let list = opened.thresholds.entries();
+    let a = &meter.a[..list.len()];
     let clauses = [
         ("offset", meter.setting.offset == exact.offset),
-        ("margin", meter.setting.margin == margin),
+        ("margin", meter.setting.margin == opened.margin),
+        ("list", meter.setting.thresholds == opened.thresholds),
         ("n", meter.n == exact.y),
         ("s", meter.s == exact.s),
         ("sq", meter.sq == exact.sq),
         ("Q against q", exact.envelope(meter.Q)),
-        ("a_j against c_j", exact.counts_from_above(&meter.a)),
-        ("a_j against c_j + D", exact.counts_from_below(&meter.a)),
-        ("a_j never rises", counts_never_rise(&meter.a)),
+        ("a_j against c_j", exact.counts_from_above(list, a)),
+        ("a_j against c_j + D", exact.counts_from_below(list, a)),
+        ("a_j never rises", counts_never_rise(a)),
         ("refusal 2 lets it pass", !meter.refusal_2()),
     ];
     for (clause, holds) in clauses {
@@ -128,22 +137,27 @@ fn report(tally: &mut Tally, name: &str, exact: &Exact, shown: Option<&Meter>, l
         tally.holds(&format!("{name} {clause}"), holds);
     }
     if let Ok(report) = answer {
-        level(tally, name, exact, &report);
+        level(tally, name, exact, &meter.setting, &report);
     }
 }
 
 /// The clauses of demand 3 about the active level of a report, at the crossing that it tells, which
-/// by the clauses on the meter shown is the one that is used (the customer's request L4).
-fn level(tally: &mut Tally, name: &str, exact: &Exact, report: &Report) {
+/// by the clauses on the meter shown is the one that is used (the customer's request L4). A is the
+/// margin or more above the lower threshold, and may be negative (the customer's request L8).
+fn level(tally: &mut Tally, name: &str, exact: &Exact, setting: &Setting, report: &Report) {
     let &Report {
         A, lower, upper, ..
     } = report;
-    let whole = A > 0 && lower <= upper && upper <= 14;
-    tally.holds(&format!("{name} A above 0, j in range"), whole);
-    if whole {
-        let below = exact.level_from_below(A as u64, lower);
+    let thresholds = &setting.thresholds;
+    let places = lower <= upper && upper < thresholds.count();
+    let C_lower = thresholds.C_(lower).filter(|_| places);
+    let least = C_lower.map(|C_lower| C_lower + setting.margin);
+    let high = least.is_some_and(|least| A >= least);
+    tally.holds(&format!("{name} A the margin above C_j, j in range"), high);
+    if places {
+        let below = exact.level_from_below(A, thresholds.places[lower]);
         tally.holds(&format!("{name} A from below"), below);
-        let above = exact.level_from_above(A as u64, upper);
+        let above = exact.level_from_above(A, thresholds.places[upper]);
         tally.holds(&format!("{name} A from above"), above);
     }
 }
@@ -196,6 +210,8 @@ pub fn counts(script: &[u8]) -> Option<String> {
         comparison.line(k + 1, call, &line);
     }
     let exact = comparison.exact.filter(|_| !bad)?;
-    let counts: Vec<String> = exact.counts().map(|u| u.to_string()).collect();
+    let list = comparison.setting.thresholds;
+    let counts = exact.counts(list.entries());
+    let counts: Vec<String> = counts.map(|u| u.to_string()).collect();
     Some(format!("counts {}\n", counts.join(" ")))
 }

@@ -1,6 +1,7 @@
-//! Where the samples of a script take the envelope: over the thresholds, onto them, just under them.
+//! Where the samples of a script take the envelope: over the thresholds of the meter's own list,
+//! onto them, just under them.
 
-use crate::meter::{c, Meter};
+use crate::meter::Meter;
 use crate::rate::rate;
 use crate::replay::taken;
 use std::collections::BTreeSet;
@@ -21,31 +22,35 @@ fn follow(mut meter: Meter, samples: &[i16], lines: &mut BTreeSet<String>) {
     for &x in samples {
         let before = meter.Q;
         meter.sample(rate, x);
-        lines.extend(crossings(before, meter.Q));
-        lines.extend(places(meter.Q));
+        let list = meter.setting.thresholds.entries();
+        lines.extend(crossings(list, before, meter.Q));
+        lines.extend(places(list, meter.Q));
     }
+}
+
+/// A line for each place of a list whose threshold is of some kind.
+fn told(list: &[u64], word: &str, of_kind: impl Fn(u64) -> bool) -> Vec<String> {
+    let places = list.iter().enumerate();
+    let found = places.filter(|(_, &c_j)| of_kind(c_j));
+    found.map(|(j, _)| format!("{word} {j}\n")).collect()
 }
 
 /// The thresholds between an envelope before a sample and the one after it, and whether it leapt up
 /// over two of them or more.
-fn crossings(before: u64, after: u64) -> Vec<String> {
-    let up = |&j: &usize| before < c(j) && after >= c(j);
-    let down = |&j: &usize| before >= c(j) && after < c(j);
-    let mut lines: Vec<String> = (0..15).filter(up).map(|j| format!("up {j}\n")).collect();
+fn crossings(list: &[u64], before: u64, after: u64) -> Vec<String> {
+    let mut lines = told(list, "up", |c_j| before < c_j && after >= c_j);
     if lines.len() >= 2 {
         lines.push("leap\n".to_string());
     }
-    lines.extend((0..15).filter(down).map(|j| format!("down {j}\n")));
+    lines.extend(told(list, "down", |c_j| before >= c_j && after < c_j));
     lines
 }
 
 /// The threshold that an envelope is at or just under, and whether it is twice the highest or more.
-fn places(Q: u64) -> Vec<String> {
-    let at = |&j: &usize| Q == c(j);
-    let under = |&j: &usize| Q == c(j) - 1;
-    let mut lines: Vec<String> = (0..15).filter(at).map(|j| format!("at {j}\n")).collect();
-    lines.extend((0..15).filter(under).map(|j| format!("under {j}\n")));
-    if Q >= 2 * c(14) {
+fn places(list: &[u64], Q: u64) -> Vec<String> {
+    let mut lines = told(list, "at", |c_j| Q == c_j);
+    lines.extend(told(list, "under", |c_j| Q + 1 == c_j));
+    if list.last().is_some_and(|highest| Q >= 2 * highest) {
         lines.push("past\n".to_string());
     }
     lines

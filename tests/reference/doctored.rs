@@ -6,6 +6,7 @@ mod cards;
 mod margins;
 mod offsets;
 mod read_back;
+mod thresholds;
 mod writes;
 
 use crate::answer;
@@ -34,7 +35,7 @@ struct List {
 fn played(setting: Setting, calls: &[Record]) -> (Vec<u8>, String, Meter) {
     let mut player = Player::new();
     let (mut script, mut lines) = (Vec::new(), String::new());
-    let opening = Record::Open(setting);
+    let opening = Record::open(setting);
     for record in iter::once(&opening).chain(calls) {
         record.write(&mut script);
         lines += &player.answer(record);
@@ -121,6 +122,7 @@ pub fn doctored(tally: &mut Tally) {
     totals(tally);
     offsets::offsets(tally);
     margins::margins(tally);
+    thresholds::thresholds(tally);
     writes::writes(tally);
     read_back::read_back(tally);
     cards::cards(tally);
@@ -236,11 +238,12 @@ fn percentages(tally: &mut Tally) {
 ///
 /// A_j is the same for every j, so that F is lev(a) - lev(n).
 fn active(n: u64, a: u64) -> Meter {
+    let (fresh, _) = Meter::open(Setting::usual(2));
     Meter {
         n,
         sq: 64 * u128::from(a),
-        a: [a; 15],
-        ..Meter::open(Setting::usual(2)).0
+        a: fresh.all(a),
+        ..fresh
     }
 }
 

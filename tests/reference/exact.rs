@@ -2,7 +2,7 @@
 
 use crate::big::Natural;
 use crate::block;
-use crate::meter::{c, MOST_IN_CHUNK, MOST_SAMPLES};
+use crate::meter::{MOST_IN_CHUNK, MOST_SAMPLES};
 use crate::rate::Rate;
 
 /// E (the customer's scope, "One sample"; the customer's request L2), with sq ("The report") and s
@@ -110,20 +110,24 @@ impl Exact {
         u
     }
 
-    /// E's counts at each c_j and then at each c_j + D (the customer's scope, "One sample").
-    pub fn counts(&self) -> impl Iterator<Item = u64> + '_ {
-        let raised = (0..15).map(|j| c(j) + self.rate.D());
-        (0..15).map(c).chain(raised).map(|c| self.count(c))
+    /// E's counts at each c_j of a list and then at each c_j + D (the customer's scope, "One
+    /// sample"; the customer's request L8).
+    pub fn counts<'a>(&'a self, list: &'a [u64]) -> impl Iterator<Item = u64> + 'a {
+        let raised = list.iter().map(|c_j| c_j + self.rate.D());
+        let plain = list.iter().copied();
+        plain.chain(raised).map(|c| self.count(c))
     }
 
-    /// Demand 3: no a_j is above E's count at c_j.
-    pub fn counts_from_above(&self, a: &[u64]) -> bool {
-        (0..15).all(|j| a[j] <= self.count(c(j)))
+    /// Demand 3: no a_j is above E's count at c_j of a list (the customer's request L8).
+    pub fn counts_from_above(&self, list: &[u64], a: &[u64]) -> bool {
+        let mut pairs = list.iter().zip(a);
+        pairs.all(|(&c_j, &a_j)| a_j <= self.count(c_j))
     }
 
-    /// Demand 3: no a_j is below E's count at c_j + D.
-    pub fn counts_from_below(&self, a: &[u64]) -> bool {
-        (0..15).all(|j| a[j] >= self.count(c(j) + self.rate.D()))
+    /// Demand 3: no a_j is below E's count at c_j + D of a list (the customer's request L8).
+    pub fn counts_from_below(&self, list: &[u64], a: &[u64]) -> bool {
+        let mut pairs = list.iter().zip(a);
+        pairs.all(|(&c_j, &a_j)| a_j >= self.count(c_j + self.rate.D()))
     }
 
     /// Demand 3: Q is at most q, and less than D below it.
@@ -134,24 +138,35 @@ impl Exact {
         units(Q) <= self.q && self.q < units(Q + u128::from(self.rate.D()))
     }
 
-    /// Demand 3: sq^4096 < 2^(A+2) e^4096, e counted at the lower threshold
-    /// (the customer's scope, "The report").
-    pub fn level_from_below(&self, A: u64, lower: usize) -> bool {
-        let e = self.count(c(lower));
+    /// Demand 3: sq^4096 < 2^(A+2) e^4096, e counted at the lower threshold (the customer's scope,
+    /// "The report").
+    pub fn level_from_below(&self, A: i64, c_lower: u64) -> bool {
+        let e = Natural::from(u128::from(self.count(c_lower)));
         let sq = Natural::from(self.sq);
-        sq.pow(4096) < Natural::from(u128::from(e)).pow(4096).shift_left(A + 2)
+        shifted_less(&sq.pow(4096), &e.pow(4096), A + 2)
     }
 
-    /// Demand 3: 2^A e'^4096 < 4 sq^4096, e' counted at the upper threshold raised by D
-    /// (the customer's scope, "The report").
-    pub fn level_from_above(&self, A: u64, upper: usize) -> bool {
-        let e = self.count(c(upper) + self.rate.D());
+    /// Demand 3: 2^A e'^4096 < 4 sq^4096, e' counted at the upper threshold raised by D (the
+    /// customer's scope, "The report").
+    pub fn level_from_above(&self, A: i64, c_upper: u64) -> bool {
+        let e = Natural::from(u128::from(self.count(c_upper + self.rate.D())));
         let sq = Natural::from(self.sq);
-        Natural::from(u128::from(e)).pow(4096).shift_left(A) < sq.pow(4096).shift_left(2)
+        shifted_less(&e.pow(4096), &sq.pow(4096).shift_left(2), -A)
+    }
+}
+
+/// Whether left < 2^exponent right; where the exponent is negative, the power of two stands on the
+/// other side (the customer's request L8).
+fn shifted_less(left: &Natural, right: &Natural, exponent: i64) -> bool {
+    let power = exponent.unsigned_abs();
+    if exponent < 0 {
+        left.shift_left(power) < *right
+    } else {
+        *left < right.shift_left(power)
     }
 }
 
 /// Demand 3: counts never rise with j.
 pub fn counts_never_rise(a: &[u64]) -> bool {
-    (1..15).all(|j| a[j] <= a[j - 1])
+    a.windows(2).all(|pair| pair[1] <= pair[0])
 }

@@ -8,6 +8,7 @@ mod host;
 mod margins;
 mod offsets;
 mod recorded;
+mod thresholds;
 mod writes;
 
 use crate::block;
@@ -19,6 +20,7 @@ use crate::rate::RATES;
 use crate::report::report;
 use crate::setting::Setting;
 use crate::tally::Tally;
+use crate::thresholds::placed;
 
 /// Every figure; whether none failed.
 pub fn figures() -> bool {
@@ -38,6 +40,7 @@ pub fn figures() -> bool {
     crossings::crossings(&mut tally);
     highest::highest(&mut tally);
     margins::margins(&mut tally);
+    thresholds::thresholds(&mut tally);
     writes::writes(&mut tally);
     host::host(&mut tally);
     recorded::recorded(&mut tally);
@@ -211,7 +214,7 @@ fn exact_threshold(tally: &mut Tally) {
         (0, 16052775414, 1 << 30),
     );
     let counts = [2, 2, 2, 2, 2, 1, 1, 0, 0, 0, 0, 0, 0, 0, 0];
-    tally.equal("9126, 11705 at code 1, counts", meter.a, counts);
+    tally.equal("9126, 11705 at code 1, counts", meter.a, placed(&counts));
 }
 
 /// An interpolation off the powers of two.

@@ -1,8 +1,8 @@
 //! Method B of P.56 (clauses 8.2 and 8.3) in floating point, without the scope's rounding.
 //!
-//! Of the scope it takes only the places of the thresholds, at powers of two of the quantizing
-//! interval, and of the customer's request L4 that of several crossings the highest is used; the
-//! Recommendation leaves both open.
+//! Of the scope it takes only the places of the built-in thresholds, at powers of two of the
+//! quantizing interval, where no others are given, and of the customer's request L4 that of several
+//! crossings the highest is used; the Recommendation leaves both open.
 
 use crate::measurement::Levels;
 use crate::rate::Rate;
@@ -42,17 +42,17 @@ impl Counts {
     }
 }
 
-/// The counts after all samples (P.56, clause 8.2, process 2).
-fn counts(rate: &Rate, samples: &[i16]) -> Vec<Counts> {
+/// The counts at thresholds, in quantizing intervals, after all samples (P.56, clause 8.2, process
+/// 2).
+fn counts(rate: &Rate, samples: &[i16], thresholds: &[f64]) -> Vec<Counts> {
     let g = (-1.0 / (rate.samples_per_second as f64 * T)).exp();
     let I = rate.I_by_rule();
-    let mut counts: Vec<Counts> = (0..15)
-        .map(|j| Counts {
-            threshold: f64::from(1 << j),
-            activity: 0,
-            hangover: I,
-        })
-        .collect();
+    let none = |&threshold: &f64| Counts {
+        threshold,
+        activity: 0,
+        hangover: I,
+    };
+    let mut counts: Vec<Counts> = thresholds.iter().map(none).collect();
     let (mut p, mut q) = (0.0, 0.0);
     for &x in samples {
         p = g * p + (1.0 - g) * f64::from(x).abs();
@@ -89,9 +89,9 @@ pub fn long_term_level(samples: &[i16]) -> f64 {
     10.0 * (squares(samples) / samples.len() as f64).log10()
 }
 
-/// The levels of all samples at each crossing, from the lowest on, with a margin in decibels; none
-/// where no threshold has it (P.56, clause 8.2).
-pub fn crossings(rate: &Rate, samples: &[i16], margin: f64) -> Vec<Levels> {
+/// The levels of all samples at each crossing between thresholds, from the lowest on, with a margin
+/// in decibels; none where no threshold has it (P.56, clause 8.2).
+fn crossings_at(rate: &Rate, samples: &[i16], thresholds: &[f64], margin: f64) -> Vec<Levels> {
     let long_term = long_term_level(samples);
     let levels = |active: f64| Levels {
         long_term,
@@ -99,12 +99,24 @@ pub fn crossings(rate: &Rate, samples: &[i16], margin: f64) -> Vec<Levels> {
         factor: long_term - active,
         percent: 100.0 * 10f64.powf((long_term - active) / 10.0),
     };
-    let active = active_levels(squares(samples), &counts(rate, samples), margin);
+    let counts = counts(rate, samples, thresholds);
+    let active = active_levels(squares(samples), &counts, margin);
     active.into_iter().map(levels).collect()
+}
+
+/// The same at the powers of two.
+pub fn crossings(rate: &Rate, samples: &[i16], margin: f64) -> Vec<Levels> {
+    let thresholds: Vec<f64> = (0..15).map(|j| f64::from(1 << j)).collect();
+    crossings_at(rate, samples, &thresholds, margin)
 }
 
 /// The levels of all samples at the crossing that is used, the highest (the customer's request L4);
 /// None where there is none.
 pub fn measure(rate: &Rate, samples: &[i16], margin: f64) -> Option<Levels> {
     crossings(rate, samples, margin).pop()
+}
+
+/// The same between thresholds of one's own (the customer's request L8).
+pub fn measure_at(rate: &Rate, samples: &[i16], thresholds: &[f64], margin: f64) -> Option<Levels> {
+    crossings_at(rate, samples, thresholds, margin).pop()
 }

@@ -14,6 +14,7 @@ mod script;
 pub mod settings;
 pub mod signals;
 mod sizes;
+pub mod spacing;
 mod thresholds;
 mod writes;
 

@@ -20,6 +20,7 @@ mod float;
 mod generate;
 mod host;
 mod level;
+mod listed;
 mod margins;
 mod measurement;
 mod meter;
@@ -33,9 +34,10 @@ mod report;
 mod setting;
 mod speech;
 mod tally;
+mod thresholds;
 mod written;
 
-use speech::{hum, vehicle};
+use speech::{finer, hum, vehicle};
 use std::io::{self, Read, Write};
 use std::num::NonZeroUsize;
 use std::process::ExitCode;
@@ -46,7 +48,7 @@ const BAD_RECORD: &str = "the script has a bad record";
 /// The commands.
 const COMMANDS: &str = "replay | report | host | generate KIND SEED COUNT | blocks CODE [K] | \
     recorded CODE | noise D SEED | figures | exact | counts | samples | largest | crossed | \
-    chosen | margins | agrees SCRIPT OUTPUT | written SCRIPT OUTPUT | \
+    chosen | margins | listed | agrees SCRIPT OUTPUT | written SCRIPT OUTPUT | \
     cards SCRIPT OUTPUT SCRIPT OUTPUT | compared RECORDING OUTPUT RECORDING OUTPUT | \
     clause11 script | clause11 check OUTPUT | speech ...";
 
@@ -170,10 +172,16 @@ fn speech(arguments: &[&str]) -> io::Result<bool> {
             let printed = std::fs::read_to_string(printed)?;
             Ok(vehicle::check(rate_of(code)?, seed_of(seed)?, &printed).finish())
         }
+        ["finer", "script", code, seed] => output(&finer::script(rate_of(code)?, seed_of(seed)?)),
+        ["finer", "check", code, seed, printed] => {
+            let printed = std::fs::read_to_string(printed)?;
+            Ok(finer::check(rate_of(code)?, seed_of(seed)?, &printed).finish())
+        }
         _ => error(
             "speech voice CODE SEED | speech hum CODE SEED | speech script CODE | \
              speech check CODE SAMPLES OUTPUT | speech heard CODE SEED OUTPUT | \
-             speech vehicle script CODE SEED | speech vehicle check CODE SEED OUTPUT",
+             speech vehicle script CODE SEED | speech vehicle check CODE SEED OUTPUT | \
+             speech finer script CODE SEED | speech finer check CODE SEED OUTPUT",
         ),
     }
 }
@@ -198,6 +206,19 @@ fn noise(most: &str, seed: &str) -> io::Result<bool> {
     output_samples(&noise::noisy(&samples, most, seed_of(seed)?))
 }
 
+/// What a command tells of a script; None where the script has a bad record.
+fn told(word: &str, script: &[u8]) -> Option<String> {
+    match word {
+        "samples" => replay::accepted_samples(script),
+        "largest" => replay::largest_size(script),
+        "crossed" => crossed::crossed(script),
+        "chosen" => chosen::chosen(script),
+        "margins" => margins::margins(script),
+        "listed" => listed::listed(script),
+        _ => None,
+    }
+}
+
 /// Runs one command; whether nothing failed.
 fn run(arguments: &[&str]) -> io::Result<bool> {
     match arguments {
@@ -218,11 +239,9 @@ fn run(arguments: &[&str]) -> io::Result<bool> {
             compare::counts(&input()?),
             "a script has an opening to accept and no bad record",
         ),
-        ["samples"] => lines(replay::accepted_samples(&input()?), BAD_RECORD),
-        ["largest"] => lines(replay::largest_size(&input()?), BAD_RECORD),
-        ["crossed"] => lines(crossed::crossed(&input()?), BAD_RECORD),
-        ["chosen"] => lines(chosen::chosen(&input()?), BAD_RECORD),
-        ["margins"] => lines(margins::margins(&input()?), BAD_RECORD),
+        [word @ ("samples" | "largest" | "crossed" | "chosen" | "margins" | "listed")] => {
+            lines(told(word, &input()?), BAD_RECORD)
+        }
         ["agrees", script, printed] => held(compare::agrees, script, printed),
         ["written", script, printed] => held(written::written, script, printed),
         ["cards", a, b, c, d] => two_cards(cards::cards, [a, b, c, d]),

@@ -20,7 +20,10 @@ pub fn margins(script: &[u8]) -> Option<String> {
 /// alone is what refusal 2 finds; of a level its margin and its mark.
 fn line(record: &Record, after: &Meter) -> Option<String> {
     match record {
-        Record::Open(setting) => Some(format!("open {} {}\n", setting.margin, setting.refusal())),
+        Record::Open(opening) => {
+            let r = opening.setting().refusal();
+            Some(format!("open {} {r}\n", opening.margin))
+        }
         Record::Load(meter) => {
             refused(meter).map(|r| format!("load {} {r}\n", meter.setting.margin))
         }

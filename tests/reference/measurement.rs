@@ -56,7 +56,7 @@ fn levels(report: &Report) -> Levels {
 
 /// Writes the records of a measurement by these calls.
 fn write_calls(setting: Setting, calls: impl Iterator<Item = Record>, out: &mut Vec<u8>) {
-    Record::Open(setting).write(out);
+    Record::open(setting).write(out);
     for call in calls {
         call.write(out);
     }

@@ -4,7 +4,9 @@ use crate::block;
 use crate::level::steps;
 use crate::percent;
 use crate::rate::{rate, Rate};
-use crate::setting::{in_range, marked, Setting};
+use crate::setting::{marked, Setting};
+use crate::thresholds::{zero_past, PLACES};
+use std::ops::Range;
 
 /// The most samples that a meter counts (the customer's scope, "Why a call is refused").
 pub const MOST_SAMPLES: u64 = 1 << 48;
@@ -12,7 +14,7 @@ pub const MOST_SAMPLES: u64 = 1 << 48;
 /// The most samples in a chunk (the customer's scope, "One sample").
 pub const MOST_IN_CHUNK: usize = 4096;
 
-/// What a meter holds (the customer's scope, "One sample"; the customer's requests L2 and L5).
+/// What a meter holds (the customer's scope, "One sample"; the customer's requests L2, L5 and L8).
 #[derive(Clone, Debug, PartialEq)]
 pub struct Meter {
     pub setting: Setting,
@@ -21,17 +23,17 @@ pub struct Meter {
     pub sq: u128,
     pub P: u64,
     pub Q: u64,
-    pub a: [u64; 15],
-    pub h: [u64; 15],
+    pub a: [u64; PLACES],
+    pub h: [u64; PLACES],
 }
 
-/// What a report holds (the customer's scope, "The report"; the customer's requests L1 and L5).
+/// What a report holds (the customer's scope, "The report"; the customer's requests L1, L5 and L8).
 #[derive(Clone, Debug, PartialEq)]
 pub struct Report {
     pub n: u64,
     pub s: i64,
     pub sq: u128,
-    pub a: [u64; 15],
+    pub a: [u64; PLACES],
     pub L: i64,
     pub A: i64,
     pub C: i64,
@@ -41,16 +43,6 @@ pub struct Report {
     pub T: u64,
     pub margin: i64,
     pub mark: bool,
-}
-
-/// Threshold c_j in units (the customer's scope, "One sample").
-pub fn c(j: usize) -> u64 {
-    1 << (j + 24)
-}
-
-/// C_j (the customer's scope, "The report").
-fn C_(j: usize) -> i64 {
-    8192 * j as i64
 }
 
 impl Meter {
@@ -63,24 +55,36 @@ impl Meter {
             sq: 0,
             P: 0,
             Q: 0,
-            a: [0; 15],
-            h: [0; 15],
+            a: [0; PLACES],
+            h: [0; PLACES],
         }
     }
 
     /// Opening: the fresh meter, which keeps what was chosen, or a refusal (the customer's scope,
-    /// "One sample", "Why a call is refused"; the customer's requests L2 and L5).
+    /// "One sample", "Why a call is refused"; the customer's requests L2, L5 and L8).
     pub fn open(setting: Setting) -> (Meter, u32) {
         let r = setting.refusal();
         let Some(rate) = rate(u32::from(setting.code)).filter(|_| r == 0) else {
             return (Meter::zero(), r);
         };
-        let fresh = Meter {
+        let unheard = Meter {
             setting,
-            h: [rate.I; 15],
             ..Meter::zero()
         };
-        (fresh, 0)
+        let h = unheard.all(rate.I);
+        (Meter { h, ..unheard }, 0)
+    }
+
+    /// The places of the meter's thresholds (the customer's request L8).
+    pub fn places(&self) -> Range<usize> {
+        0..self.setting.thresholds.count()
+    }
+
+    /// One number for each threshold of the meter, and 0 past the end (the customer's request L8).
+    pub fn all(&self, number: u64) -> [u64; PLACES] {
+        let mut numbers = [0; PLACES];
+        numbers[self.places()].fill(number);
+        numbers
     }
 
     /// A chunk: the meter handed back and 0 or the refusal (the customer's scope, "One sample").
@@ -134,22 +138,35 @@ impl Meter {
     }
 
     /// Refusal 2: no measurement could hold this; any offset could be held (the customer's scope,
-    /// "Why a call is refused"; the customer's requests L2 and L5).
+    /// "Why a call is refused"; the customer's requests L2, L5 and L8).
     pub fn refusal_2(&self) -> bool {
-        let Some(rate) = rate(u32::from(self.setting.code)) else {
-            return true;
-        };
+        self.setting.refusal() != 0 || self.past_end() || self.impossible_state()
+    }
+
+    /// Of refusal 2, that something other than zero stands past the list's end, among thresholds,
+    /// counts or hangovers (the customer's request L8).
+    pub fn past_end(&self) -> bool {
+        let thresholds = &self.setting.thresholds;
+        let ends = |places| zero_past(places, thresholds.count());
+        !(thresholds.ends() && ends(&self.a) && ends(&self.h))
+    }
+
+    /// Of refusal 2, what is about sums, envelopes, counts and hangovers, neighbours compared only
+    /// within the list (the customer's scope, "Why a call is refused"; the customer's requests L2
+    /// and L8).
+    pub fn impossible_state(&self) -> bool {
+        let I = rate(u32::from(self.setting.code)).map_or(0, |rate| rate.I);
         let n = u128::from(self.n);
-        !in_range(self.setting.margin)
-            || self.n > MOST_SAMPLES
+        let (a, h) = (&self.a[self.places()], &self.h[self.places()]);
+        self.n > MOST_SAMPLES
             || u128::from(self.s.unsigned_abs()) > n << 15
             || self.sq > n << 32
             || self.P > 1 << 40
             || self.Q > 1 << 40
-            || self.h.iter().any(|&h| h > rate.I)
-            || self.a.iter().any(|&a| a > self.n)
-            || (1..15).any(|j| self.a[j] > self.a[j - 1])
-            || (1..15).any(|j| self.h[j] < self.h[j - 1])
+            || h.iter().any(|&h| h > I)
+            || a.iter().any(|&a| a > self.n)
+            || a.windows(2).any(|pair| pair[1] > pair[0])
+            || h.windows(2).any(|pair| pair[1] < pair[0])
     }
 
     /// Refusal 11: too many samples together (the customer's scope, "Why a call is refused").
@@ -172,8 +189,8 @@ impl Meter {
         x.abs_diff(self.setting.offset)
     }
 
-    /// One sample: s takes it as it is, all else its size (the customer's scope, "One sample"; the
-    /// customer's request L2).
+    /// One sample: s takes it as it is, all else its size, and each threshold of the list counts it
+    /// or not (the customer's scope, "One sample"; the customer's requests L2 and L8).
     pub fn sample(&mut self, rate: &Rate, x: i16) {
         let K = u128::from(rate.K);
         let size = u128::from(self.size(x));
@@ -184,8 +201,8 @@ impl Meter {
         let Q = (u128::from(self.Q) * ((1 << 20) - K) + P * K) >> 20;
         self.P = P as u64;
         self.Q = Q as u64;
-        for j in 0..15 {
-            if self.Q >= c(j) {
+        for j in self.places() {
+            if self.Q >= self.setting.thresholds.places[j] {
                 self.a[j] += 1;
                 self.h[j] = 0;
             } else if self.h[j] < rate.I {
@@ -200,15 +217,17 @@ impl Meter {
         Some(steps(self.sq)? - steps(u128::from(self.n))?)
     }
 
-    /// A_j where j is one of 0 to 14 and sq and a_j are above 0 (the customer's scope, "The report").
+    /// A_j where j is a place of the list and sq and a_j are above 0 (the customer's scope, "The
+    /// report"; the customer's request L8).
     fn A_(&self, j: usize) -> Option<i64> {
-        let a_j = *self.a.get(j)?;
+        let a_j = *self.a[self.places()].get(j)?;
         Some(steps(self.sq)? - steps(u128::from(a_j))?)
     }
 
-    /// d_j where there is an A_j (the customer's scope, "The report"; the customer's request L5).
+    /// d_j where there is an A_j (the customer's scope, "The report"; the customer's requests L5
+    /// and L8).
     pub fn d(&self, j: usize) -> Option<i64> {
-        self.A_(j).map(|A_j| A_j - C_(j) - self.setting.margin)
+        Some(self.A_(j)? - self.setting.thresholds.C_(j)? - self.setting.margin)
     }
 
     /// Whether a crossing is at j (the customer's scope, "The report").
@@ -222,13 +241,14 @@ impl Meter {
 
     /// The places of the crossings, from the lowest on (the customer's scope, "The report").
     pub fn crossings(&self) -> impl Iterator<Item = usize> + '_ {
-        (0..15).filter(|&j| self.crossing_at(j))
+        self.places().filter(|&j| self.crossing_at(j))
     }
 
     /// Whether the crossing that is used is at j: one is there, and none is at a higher place (the
     /// customer's request L4).
     pub fn uses_crossing(&self, j: usize) -> bool {
-        self.crossing_at(j) && (j + 1..15).all(|higher| !self.crossing_at(higher))
+        let mut higher = self.places().skip(j + 1);
+        self.crossing_at(j) && !higher.any(|higher| self.crossing_at(higher))
     }
 
     /// A and the lower and upper j at a crossing (the customer's scope, "The report").
@@ -243,7 +263,7 @@ impl Meter {
     }
 
     /// The report at j, where a crossing is there (the customer's scope, "The report"; the
-    /// customer's requests L1 and L5).
+    /// customer's requests L1, L5 and L8).
     pub fn report_at(&self, j: usize) -> Option<Report> {
         if !self.crossing_at(j) {
             return None;
@@ -283,7 +303,7 @@ impl Meter {
         let Some(d_0) = self.d(0) else {
             return Err(14);
         };
-        let crossing = (0..15).find(|&j| self.uses_crossing(j));
+        let crossing = self.places().find(|&j| self.uses_crossing(j));
         match crossing.and_then(|j| self.report_at(j)) {
             Some(report) => Ok(report),
             None if d_0 < 0 => Err(15),

@@ -3,6 +3,7 @@
 use crate::meter::{Meter, Report};
 use crate::replay::write_line;
 use crate::setting::Setting;
+use crate::thresholds::{placed, Thresholds, PLACES};
 
 /// The numbers after a line's first word, where that word is the one wanted.
 pub fn numbers(line: &str, word: &str) -> Option<Vec<i128>> {
@@ -18,7 +19,7 @@ pub fn report(line: &str) -> Option<Result<Report, u32>> {
                 n: u64::try_from(n).ok()?,
                 s: i64::try_from(s).ok()?,
                 sq: two_words(high, low)?,
-                a: fifteen(a)?,
+                a: places(a)?,
                 L: i64::try_from(L).ok()?,
                 A: i64::try_from(A).ok()?,
                 C: i64::try_from(C).ok()?,
@@ -49,42 +50,57 @@ fn two_words(high: i128, low: i128) -> Option<u128> {
     Some((u128::from(high) << 64) + u128::from(low))
 }
 
-/// Fifteen unsigned numbers.
-fn fifteen(values: &[i128]) -> Option<[u64; 15]> {
+/// So many unsigned numbers.
+fn unsigned<const COUNT: usize>(values: &[i128]) -> Option<[u64; COUNT]> {
     let numbers: Option<Vec<u64>> = values.iter().map(|&value| value.try_into().ok()).collect();
     numbers?.try_into().ok()
 }
 
-/// The meter of a show's line: 39 values, all but the offset, the margin and s unsigned.
+/// An unsigned number for each place.
+fn places(values: &[i128]) -> Option<[u64; PLACES]> {
+    unsigned(values)
+}
+
+/// The meter of a show's line: 82 values, all but the offset, the margin and s unsigned.
 pub fn meter(line: &str) -> Option<Meter> {
     let values = numbers(line, "meter")?;
-    if values.len() != 39 {
+    if values.len() != 82 {
         return None;
     }
     let word = |i: usize| u64::try_from(values[i]).ok();
     Some(Meter {
-        setting: Setting {
-            code: u8::try_from(values[0]).ok()?,
-            offset: i16::try_from(values[1]).ok()?,
-            margin: i64::try_from(values[2]).ok()?,
-        },
-        n: word(3)?,
-        s: i64::try_from(values[4]).ok()?,
-        sq: two_words(values[5], values[6])?,
-        P: word(7)?,
-        Q: word(8)?,
-        a: fifteen(&values[9..24])?,
-        h: fifteen(&values[24..])?,
+        setting: setting(&values[..28])?,
+        n: word(28)?,
+        s: i64::try_from(values[29]).ok()?,
+        sq: two_words(values[30], values[31])?,
+        P: word(32)?,
+        Q: word(33)?,
+        a: places(&values[34..58])?,
+        h: places(&values[58..])?,
     })
 }
 
-/// The n and the a_j that the report program printed, each on a line of its own.
-pub fn measured(output: &str) -> Option<(u64, [u64; 15])> {
+/// What a meter keeps of its opening, with which its values begin.
+fn setting(values: &[i128]) -> Option<Setting> {
+    Some(Setting {
+        code: u8::try_from(values[0]).ok()?,
+        offset: i16::try_from(values[1]).ok()?,
+        margin: i64::try_from(values[2]).ok()?,
+        thresholds: Thresholds {
+            length: u64::try_from(values[3]).ok()?,
+            places: places(&values[4..])?,
+        },
+    })
+}
+
+/// The n and the fifteen a_j that the report program printed, each on a line of its own.
+pub fn measured(output: &str) -> Option<(u64, [u64; PLACES])> {
     let line = |word| output.lines().find_map(|line| numbers(line, word));
     let [n] = line("samples")?[..] else {
         return None;
     };
-    Some((u64::try_from(n).ok()?, fifteen(&line("counts")?)?))
+    let counts: [u64; 15] = unsigned(&line("counts")?)?;
+    Some((u64::try_from(n).ok()?, placed(&counts)))
 }
 
 /// The number of a write's line and the buffer's bytes; None for any other form than that of the

@@ -1,10 +1,13 @@
 //! The records of a recorded list of calls, read and written; numbers are little-endian.
 
+mod opening;
 mod writing;
 
 use crate::block;
 use crate::meter::Meter;
 use crate::setting::Setting;
+use crate::thresholds::{Thresholds, PLACES};
+pub use opening::Opening;
 pub use writing::Writing;
 
 /// How many bytes the code of a check or of a write has: in a script to play, and in one for the
@@ -12,9 +15,12 @@ pub use writing::Writing;
 const PLAYED_CODE: usize = 1;
 const HOST_CODE: usize = 4;
 
+/// The length of a list that stands for the built-in one, after which no threshold comes.
+const BUILT_IN: u16 = 65535;
+
 /// One record.
 pub enum Record {
-    Open(Setting),
+    Open(Opening),
     Chunk(Vec<i16>),
     Block(Vec<u8>),
     Report,
@@ -69,13 +75,14 @@ impl<'a> Reader<'a> {
         Some((u128::from(high) << 64) + u128::from(low))
     }
 
-    /// Fifteen numbers of eight bytes.
-    fn fifteen(&mut self) -> Option<[u64; 15]> {
-        let mut numbers = [0; 15];
-        for number in &mut numbers {
-            *number = self.number(8)?;
-        }
-        Some(numbers)
+    /// So many numbers of eight bytes.
+    fn numbers(&mut self, count: usize) -> Option<Vec<u64>> {
+        (0..count).map(|_| self.number(8)).collect()
+    }
+
+    /// A number of eight bytes for each place.
+    fn places(&mut self) -> Option<[u64; PLACES]> {
+        self.numbers(PLACES)?.try_into().ok()
     }
 
     /// A length of two bytes and that many bytes.
@@ -100,16 +107,38 @@ impl<'a> Reader<'a> {
         self.samples(count)
     }
 
-    /// What is chosen at opening, with which the values of a meter begin as well.
+    /// A length of two bytes and so many thresholds; None within where it is the built-in list.
+    fn list(&mut self) -> Option<Option<Vec<u64>>> {
+        match self.number(2)? as u16 {
+            BUILT_IN => Some(None),
+            length => Some(Some(self.numbers(usize::from(length))?)),
+        }
+    }
+
+    /// What an opening is given.
+    fn opening(&mut self) -> Option<Opening> {
+        Some(Opening {
+            code: self.number(1)? as u8,
+            offset: self.sample()?,
+            margin: self.number(8)? as i64,
+            list: self.list()?,
+        })
+    }
+
+    /// What a meter keeps of its opening, with which its values begin.
     fn setting(&mut self) -> Option<Setting> {
         Some(Setting {
             code: self.number(1)? as u8,
             offset: self.sample()?,
             margin: self.number(8)? as i64,
+            thresholds: Thresholds {
+                length: self.number(8)?,
+                places: self.places()?,
+            },
         })
     }
 
-    /// The 39 values of a meter.
+    /// The 82 values of a meter.
     fn meter(&mut self) -> Option<Meter> {
         Some(Meter {
             setting: self.setting()?,
@@ -118,8 +147,8 @@ impl<'a> Reader<'a> {
             sq: self.two_words()?,
             P: self.number(8)?,
             Q: self.number(8)?,
-            a: self.fifteen()?,
-            h: self.fifteen()?,
+            a: self.places()?,
+            h: self.places()?,
         })
     }
 
@@ -154,7 +183,7 @@ impl<'a> Reader<'a> {
     /// One record; None also where the first byte is unknown.
     fn record(&mut self) -> Option<Record> {
         match self.number(1)? {
-            1 => Some(Record::Open(self.setting()?)),
+            1 => Some(Record::Open(self.opening()?)),
             2 => Some(Record::Chunk(self.chunk()?)),
             3 => Some(Record::Block(self.bytes()?)),
             4 => Some(Record::Report),
@@ -221,22 +250,42 @@ fn write_words(number: u128, out: &mut Vec<u8>) {
     out.extend(low.to_le_bytes());
 }
 
-/// Writes what is chosen at opening.
-fn write_setting(setting: &Setting, out: &mut Vec<u8>) {
-    out.push(setting.code);
-    out.extend(setting.offset.to_le_bytes());
-    out.extend(setting.margin.to_le_bytes());
+/// Writes numbers of eight bytes.
+fn write_numbers<'a>(numbers: impl IntoIterator<Item = &'a u64>, out: &mut Vec<u8>) {
+    out.extend(numbers.into_iter().flat_map(|number| number.to_le_bytes()));
 }
 
-/// Writes the 39 values of a meter.
+/// Writes a length of two bytes and so many thresholds, or that of the built-in list alone.
+fn write_list(list: Option<&[u64]>, out: &mut Vec<u8>) {
+    let length = list.map_or(BUILT_IN, |entries| entries.len() as u16);
+    out.extend(length.to_le_bytes());
+    write_numbers(list.unwrap_or_default(), out);
+}
+
+/// Writes a code, an offset and a margin.
+fn write_choice(code: u8, offset: i16, margin: i64, out: &mut Vec<u8>) {
+    out.push(code);
+    out.extend(offset.to_le_bytes());
+    out.extend(margin.to_le_bytes());
+}
+
+/// Writes what an opening is given.
+fn write_opening(opening: &Opening, out: &mut Vec<u8>) {
+    write_choice(opening.code, opening.offset, opening.margin, out);
+    write_list(opening.list.as_deref(), out);
+}
+
+/// Writes the 82 values of a meter.
 fn write_meter(meter: &Meter, out: &mut Vec<u8>) {
-    write_setting(&meter.setting, out);
+    let setting = &meter.setting;
+    write_choice(setting.code, setting.offset, setting.margin, out);
+    write_numbers([&setting.thresholds.length], out);
+    write_numbers(&setting.thresholds.places, out);
     out.extend(meter.n.to_le_bytes());
     out.extend(meter.s.to_le_bytes());
     write_words(meter.sq, out);
-    for number in [meter.P, meter.Q].iter().chain(&meter.a).chain(&meter.h) {
-        out.extend(number.to_le_bytes());
-    }
+    write_numbers([&meter.P, &meter.Q], out);
+    write_numbers(meter.a.iter().chain(&meter.h), out);
 }
 
 /// Writes a code of so many bytes, which hold it.
@@ -256,6 +305,11 @@ fn write_writing(writing: &Writing, code_length: usize, out: &mut Vec<u8>) {
 }
 
 impl Record {
+    /// An opening with a setting; its list is the built-in one where it has the same thresholds.
+    pub fn open(setting: Setting) -> Record {
+        Record::Open(Opening::from(setting))
+    }
+
     /// Writes the record.
     pub fn write(&self, out: &mut Vec<u8>) {
         self.write_coded(PLAYED_CODE, out);
@@ -269,9 +323,9 @@ impl Record {
     /// Writes the record, the code of a check or of a write in so many bytes.
     fn write_coded(&self, code_length: usize, out: &mut Vec<u8>) {
         match self {
-            Record::Open(setting) => {
+            Record::Open(opening) => {
                 out.push(1);
-                write_setting(setting, out);
+                write_opening(opening, out);
             }
             Record::Chunk(samples) => {
                 out.push(2);

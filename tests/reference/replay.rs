@@ -25,7 +25,7 @@ impl Player {
     /// Plays one record and gives its line.
     pub fn answer(&mut self, record: &Record) -> String {
         match record {
-            Record::Open(setting) => format!("open {}", self.keep(Meter::open(*setting))),
+            Record::Open(opening) => format!("open {}", self.keep(Meter::open(opening.setting()))),
             Record::Chunk(samples) => format!("chunk {}", self.keep(self.meter.chunk(samples))),
             Record::Block(bytes) => format!("block {}", self.keep(self.meter.block(bytes))),
             Record::Report => report_line(&self.meter.report()),
@@ -98,22 +98,25 @@ pub fn report_line(answer: &Result<Report, u32>) -> String {
     )
 }
 
-/// The line of a show: the 39 values.
+/// The line of a show: the 82 values.
 pub fn meter_line(meter: &Meter) -> String {
     let Setting {
         code,
         offset,
         margin,
+        thresholds,
     } = meter.setting;
     let (high, low) = words(meter.sq);
-    let mut line = format!(
-        "meter {code} {offset} {margin} {} {} {high} {low}",
-        meter.n, meter.s
-    );
-    for number in [meter.P, meter.Q].iter().chain(&meter.a).chain(&meter.h) {
-        line += &format!(" {number}");
-    }
-    line
+    let list = [thresholds.length].into_iter().chain(thresholds.places);
+    let mut line = format!("meter {code} {offset} {margin}{}", spaced(list));
+    line += &format!(" {} {} {high} {low}", meter.n, meter.s);
+    let rest = [meter.P, meter.Q].into_iter().chain(meter.a).chain(meter.h);
+    line + &spaced(rest)
+}
+
+/// Numbers, each after a space.
+fn spaced(numbers: impl Iterator<Item = u64>) -> String {
+    numbers.map(|number| format!(" {number}")).collect()
 }
 
 /// Plays every record, one line each; a bad one ends the run with a line of its own.

@@ -11,8 +11,9 @@ pub const RATE: &Rate = &RATES[0];
 
 /// What it prints for an input: the refused blocks, then the measurement.
 ///
-/// A short last block counts as one and is handed on as it is (the customer's scope, "Worked figures").
-/// The offset is 0 and the margin 21635 (the customer's requests L2 and L5).
+/// A short last block counts as one and is handed on as it is (the customer's scope, "Worked
+/// figures"). The offset is 0, the margin 21635 and the list the built-in one (the customer's
+/// requests L2, L5 and L8).
 pub fn report(input: &[u8]) -> String {
     let (mut meter, _) = Meter::open(Setting::usual(RATE.code));
     let mut lines = String::new();
@@ -30,7 +31,8 @@ pub fn report(input: &[u8]) -> String {
 /// (the customer's request L1).
 fn measurement(meter: &Meter) -> String {
     let (high, low) = words(meter.sq);
-    let counts = meter.a.map(|a_j| a_j.to_string()).join(" ");
+    let counts: Vec<String> = meter.places().map(|j| meter.a[j].to_string()).collect();
+    let counts = counts.join(" ");
     let last = match meter.report() {
         Ok(Report { L, A, C, F, T, .. }) => format!("level {L} {A} {C} {F}\npercent {T}"),
         Err(r) => format!("refused {r}"),

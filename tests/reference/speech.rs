@@ -1,5 +1,6 @@
 //! Speech measured by a replay program and by floating-point method B, side by side.
 
+pub mod finer;
 pub mod hum;
 mod line;
 pub mod vehicle;

@@ -1,8 +1,8 @@
 // The meter's side of the speed comparison. Standard input holds a rate code of one byte, a number of
 // rounds of two, a chunk's length of two (0 stands for 4096), an offset of two, and then at most 32768
-// samples, two bytes each: a meter opened at that code and offset, with the usual margin, takes the samples
-// so many times over, in chunks of that length, and its values are printed. Where less than these seven
-// bytes come, the meter is the one of all zeros.
+// samples, two bytes each: a meter opened at that code and offset, and else as usual, takes the samples so
+// many times over, in chunks of that length, and its values are printed. Where less than these seven bytes
+// come, the meter is the one of all zeros.
 ghost use Prim.Native.Nat.{_<_};
 use input::Streams;
 use meter::Meter;
@@ -10,10 +10,10 @@ use setting::Setting;
 
 fn main() {
     let mut bytes = [0u8; 65543];
-    let mut lines = [0u8; 1024];
+    let mut lines = [0u8; 4096];
     let streams = Streams::new().ready(&mut bytes, &mut lines, 65543);
     let source = streams.source;
-    let mut line = [0u8; 1024];
+    let mut line = [0u8; 4096];
     let used = print::meter(&mut line, 0, measured(input::ahead(&bytes, source, 65543)));
     streams
         .put(&mut lines, page::filled(&line, used))
@@ -31,15 +31,10 @@ fn measured(held: &[u8]) -> Meter {
     let mut samples = [0i16; 32768];
     coding::decode(part, &mut samples);
     let count = coding::least(part.len() / 2, 32768);
-    let usual = Setting::usual(coding::one_byte(held, 0) as u32);
-    let margin = usual.margin;
-    let fresh = Meter::open(Setting {
-        code: usual.code,
-        offset: offset[0],
-        margin,
-    });
+    let mut chosen = Setting::usual(coding::one_byte(held, 0) as u32);
+    chosen.offset = offset[0];
     repeated(
-        fresh.meter,
+        Meter::open(chosen).meter,
         coding::two_bytes(held, 1),
         chunk_length(held),
         &samples[0..count],

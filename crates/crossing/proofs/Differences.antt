@@ -4,10 +4,11 @@ use mathlib.Core.Path.{_≡_, refl, sym, ap, _∙_}
 use Prim.Native.Nat.{ℕ, zero, suc, _+_, _*_, _-_, _/_, _≤_, _<_}
 use native.Mathlib.Nat.{le-trans, le-of-lt, mul-le-mul-left, div-le-of-le-mul, mul-comm}
 use native.Mathlib.Omega.{arith}
-use borrow.Author.Tests.{ltb-true, le-ltb}
-use lib.Dec.{ltb}
+use borrow.Author.Tests.{ltb-true, ltb-false, leb-true, le-leb, le-ltb}
+use lib.Dec.{leb, ltb}
 use lib.IntN.{ℤ, pos, negsuc, negℤ, natAbs, _+ℤ_, _-ℤ_, _*ℤ_, +ℤ-assoc, +ℤ-comm, +ℤ-negℤ-cancel, negℤ-+ℤ, negℤ-negℤ}
-use lib.Signed.{ltZ}
+use lib.Signed.{ltZ, leZ}
+use Rattle.signed.proofs.Order.{AtMost, at-most, at-most-test}
 use Rattle.crossing.specs.Crossing.{floorOver}
 
 turned-round : (x y : ℤ) → negℤ (x -ℤ y) ≡ negℤ x +ℤ y
@@ -53,6 +54,34 @@ not-above a (suc b) h = go (ltb a (suc b)) refl
     go : (t : Bool) → ltb a (suc b) ≡ t → ltZ (pos 0) (cond t (negsuc (suc b - suc a)) (pos (a - suc b))) ≡ false
     go true e = refl
     go false e = le-ltb 0 (a - suc b) (omega arith)
+
+-- where x − y is not below 0, y is at most x
+pub not-over : (x y : ℤ) → ltZ (x -ℤ y) (pos 0) ≡ false → leZ y x ≡ true
+not-over (pos a) (pos b) e = le-leb b a (ltb-false a b (sym (below-is a b) ∙ e))
+not-over (pos a) (negsuc b) e = refl
+not-over (negsuc a) (pos zero) e = absurd (omega (arith, ltb-false 0 (suc a) (sym (below-is 0 (suc a)) ∙ e)))
+not-over (negsuc a) (pos (suc b)) e = absurd (true≢false e)
+not-over (negsuc a) (negsuc b) e = le-leb a b (omega (arith, ltb-false (suc b) (suc a) (sym (below-is (suc b) (suc a)) ∙ e)))
+
+pub at-most-trans : (x y z : ℤ) → leZ x y ≡ true → leZ y z ≡ true → leZ x z ≡ true
+at-most-trans (pos a) (pos b) (pos c) h k = le-leb a c (le-trans (leb-true a b h) (leb-true b c k))
+at-most-trans (pos a) (pos b) (negsuc c) h k = absurd (false≢true k)
+at-most-trans (pos a) (negsuc b) z h k = absurd (false≢true h)
+at-most-trans (negsuc a) y (pos c) h k = refl
+at-most-trans (negsuc a) (pos b) (negsuc c) h k = absurd (false≢true k)
+at-most-trans (negsuc a) (negsuc b) (negsuc c) h k = le-leb c a (le-trans (leb-true c b k) (leb-true b a h))
+
+itself : (z : ℤ) → leZ z z ≡ true
+itself (pos a) = le-leb a a (omega arith)
+itself (negsuc a) = le-leb a a (omega arith)
+
+-- s − l is at most s − g, where g is at most l
+pub less-taken : (s g l : ℕ) → g ≤ l → leZ (pos s -ℤ pos l) (pos s -ℤ pos g) ≡ true
+less-taken s g l h = let z = pos s -ℤ pos g in at-most-test s l z (more z (at-most s g z (itself z)))
+  where
+    more : (z : ℤ) → AtMost s g z → AtMost s l z
+    more (pos n) b = omega arith
+    more (negsuc n) b = omega arith
 
 -- ---- where d is above 0 and e below
 

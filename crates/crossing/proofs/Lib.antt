@@ -1,4 +1,5 @@
 pub mod Bounds
+pub mod BuiltIn
 mod Differences
 pub mod Searching
 mod Sizes

@@ -14,7 +14,7 @@ use mir.Val.{SFits, toZ, ofZ}
 use mir.Facts.{toZ-ofZ}
 use Rattle.signed.proofs.Sizes.{fits}
 use Rattle.level.specs.Logarithm.{lev}
-use Rattle.level.specs.Types.{activity, stepsOf, thresholds}
+use Rattle.level.specs.Types.{activity, stepsOf}
 use Rattle.level.specs.declared.Samples.{Samples}
 use Rattle.level.specs.declared.Steps.{Steps}
 use Rattle.level.proofs.Laws.{facts, pow-lt-cancel}
@@ -33,15 +33,19 @@ exponent l n b x h u =
 pub lev-max : (n : ℕ) → 1 ≤ n → n ≤ 2 ^ 80 → lev n < 2 ^ 19
 lev-max n h u = omega (arith, exponent (lev n) n 80 4096 (facts .at-most n h u) u)
 
--- counts that fall: each is at most the one before, and the first
-pub falls : (a : List Samples) → Falling a → (j : ℕ) → j < thresholds → 1 ≤ j → activity a j ≤ activity a (j - 1)
-falls a f j l h = let e : j - 1 + 1 ≡ j = omega arith in subst (λ (k : ℕ). activity a k ≤ activity a (j - 1)) e (f .falls (j - 1) (omega arith))
+-- of a word
+pub lev-word : (n : ℕ) → 1 ≤ n → n < 2 ^ 64 → lev n ≤ 2 ^ 18
+lev-word n h u = omega (arith, exponent (lev n) n 64 4096 (facts .at-most n h (omega arith)) (omega arith))
 
-pub few : (a : List Samples) → Falling a → (j : ℕ) → j < thresholds → activity a j ≤ 2 ^ 80
-few a f zero l = f .few
-few a f (suc j) l =
+-- counts that fall: each is at most the one before, and the first
+pub falls : (k : ℕ) (a : List Samples) → Falling k a → (j : ℕ) → j < k → 1 ≤ j → activity a j ≤ activity a (j - 1)
+falls k a f j l h = let e : j - 1 + 1 ≡ j = omega arith in subst (λ (i : ℕ). activity a i ≤ activity a (j - 1)) e (f .falls (j - 1) (omega arith))
+
+pub few : (k : ℕ) (a : List Samples) → Falling k a → (j : ℕ) → j < k → activity a j ≤ 2 ^ 80
+few k a f zero l = f .few
+few k a f (suc j) l =
     let e : j ≡ suc j - 1 = omega arith in
-    le-trans (falls a f (suc j) l (omega arith)) (subst (λ (k : ℕ). activity a k ≤ 2 ^ 80) e (few a f j (omega arith)))
+    le-trans (falls k a f (suc j) l (omega arith)) (subst (λ (i : ℕ). activity a i ≤ 2 ^ 80) e (few k a f j (omega arith)))
 
 -- ---- steps as the code holds them
 

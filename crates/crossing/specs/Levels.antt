@@ -5,6 +5,8 @@ use lib.IntN.{ℤ, pos, _-ℤ_}
 use Rattle.level.specs.Logarithm.{lev}
 use Rattle.level.specs.Types.{activity}
 use Rattle.level.specs.declared.Samples.{Samples}
+use Rattle.thresholds.specs.declared.Thresholds.{Thresholds}
+use Rattle.thresholds.specs.Lists.{thresholdOf}
 
 -- L = lev(sq) − lev(n)
 unfoldable pub longTerm : (S : ℤ) (n : ℕ) → ℤ
@@ -14,14 +16,14 @@ longTerm S n = S -ℤ pos (lev n)
 unfoldable pub activeAt : (S : ℤ) (a : List Samples) (j : ℕ) → ℤ
 activeAt S a j = S -ℤ pos (lev (activity a j))
 
--- from one threshold to the next, in steps
-abbrev pub stepsAThreshold : ℕ
-stepsAThreshold = 8192
+-- twice lev of one interval in units, 2^24: 2·4096·24
+abbrev pub intervalSteps : ℕ
+intervalSteps = 196608
 
--- C_j = 8192·j
-unfoldable pub levelOfThreshold : ℕ → ℤ
-levelOfThreshold j = pos (stepsAThreshold * j)
+-- C_j = 2·lev(c_j) − 196608, for c_j in units: above 0 where c_j is above one interval, and below 0 where it is below
+unfoldable pub levelOfThreshold : (c : ℕ) → ℤ
+levelOfThreshold c = pos (2 * lev c) -ℤ pos intervalSteps
 
 -- d_j = A_j − C_j − M
-unfoldable pub excess : (M S : ℤ) (a : List Samples) (j : ℕ) → ℤ
-excess M S a j = activeAt S a j -ℤ levelOfThreshold j -ℤ M
+unfoldable pub excess : (M S : ℤ) (t : Thresholds) (a : List Samples) (j : ℕ) → ℤ
+excess M S t a j = activeAt S a j -ℤ levelOfThreshold (thresholdOf t j) -ℤ M

@@ -1,4 +1,5 @@
 pub mod Crossing
+pub mod Exponents
 pub mod Inner
 pub mod Levels
 pub mod Searched

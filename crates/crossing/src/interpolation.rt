@@ -3,7 +3,8 @@ ghost use Rattle.crossing.specs.Inner.Interpolation.{Around, AtCrossing,
 use crate::steps;
 use level::Samples;
 use level::Steps;
-use level::THRESHOLDS;
+use thresholds::PLACES;
+use thresholds::Thresholds;
 
 // The active level at a crossing, and the crossing's lower threshold.
 pub struct Active {
@@ -12,13 +13,20 @@ pub struct Active {
 }
 
 // At a crossing j: A_j where d_j is 0, else between A_(j−1) and A_j.
-pub(crate) fn at_crossing(power: Steps, a: [Samples; THRESHOLDS], j: usize, margin: Steps) -> Active
-    requires { ⌜ AtCrossing (margin .0) (power .0) a j ⌝ }
-    ensures { λ r. ⌜ IsActive (margin .0) (power .0) a j r ⌝ }
+pub(crate) fn at_crossing(
+    power: Steps,
+    list: Thresholds,
+    a: [Samples; PLACES],
+    j: usize,
+    margin: Steps,
+) -> Active
+    requires { ⌜ AtCrossing (margin .0) (power .0) list a j ⌝ }
+    ensures { λ r. ⌜ IsActive (margin .0) (power .0) list a j r ⌝ }
 {
+    let c = list.at;
     let count = a[j];
     let upper = steps::over(power, count);
-    let after = steps::excess(power, count, j, margin);
+    let after = steps::excess(power, count, c[j], margin);
     if steps::is_zero(after) {
         return Active {
             level: upper,
@@ -28,7 +36,7 @@ pub(crate) fn at_crossing(power: Steps, a: [Samples; THRESHOLDS], j: usize, marg
     let i = j - 1;
     let count_before = a[i];
     let lower = steps::over(power, count_before);
-    let before = steps::excess(power, count_before, i, margin);
+    let before = steps::excess(power, count_before, c[i], margin);
     Active {
         level: between(lower, upper, before, after),
         lower: i,

@@ -11,7 +11,8 @@ use crate::search::Place;
 use level::Samples;
 use level::Squares;
 use level::Steps;
-use level::THRESHOLDS;
+use thresholds::PLACES;
+use thresholds::Thresholds;
 
 // The long-term level L, the active level A, the threshold C and the activity factor F, in steps;
 // the lower and the upper threshold of the crossing.
@@ -33,15 +34,21 @@ pub enum Found {
 }
 
 // The levels of n samples with the sum of squares sq and the activity counts a.
-pub fn find_levels(n: Samples, sq: Squares, a: [Samples; THRESHOLDS], margin: Steps) -> Found
-    requires { ⌜ Measured (margin .0) (n .0) (twoWords sq) a ⌝ }
-    ensures { λ r. ⌜ said r ≡ searched (margin .0) (n .0) (twoWords sq) a ⌝ }
+pub fn find_levels(
+    n: Samples,
+    sq: Squares,
+    list: Thresholds,
+    a: [Samples; PLACES],
+    margin: Steps,
+) -> Found
+    requires { ⌜ Measured (margin .0) (n .0) (twoWords sq) list a ⌝ }
+    ensures { λ r. ⌜ said r ≡ searched (margin .0) (n .0) (twoWords sq) list a ⌝ }
 {
     let power = sq.level().steps();
-    match search::crossing(power, a, margin) {
+    match search::crossing(power, list, a, margin) {
         Place::At(j) => {
             let level = steps::over(power, n);
-            let at = interpolation::at_crossing(power, a, j, margin);
+            let at = interpolation::at_crossing(power, list, a, j, margin);
             let active = at.level;
             Found::At(Levels {
                 level,
@@ -53,7 +60,8 @@ pub fn find_levels(n: Samples, sq: Squares, a: [Samples; THRESHOLDS], margin: St
             })
         }
         Place::Nowhere => {
-            let first = steps::excess(power, a[0], 0, margin);
+            let c = list.at;
+            let first = steps::excess(power, a[0], c[0], margin);
             if steps::below_zero(first) {
                 Found::Below
             } else {

@@ -6,7 +6,8 @@ ghost use Rattle.crossing.specs.Inner.Search.{Searchable, placeOf};
 use crate::steps;
 use level::Samples;
 use level::Steps;
-use level::THRESHOLDS;
+use thresholds::PLACES;
+use thresholds::Thresholds;
 
 // The place of a crossing, if there is one.
 pub enum Place {
@@ -16,17 +17,18 @@ pub enum Place {
 
 // The highest crossing: the first that is met downwards from the highest threshold that counted
 // anything. `below` says whether d_j is below 0; where there is no d_j it is false.
-pub(crate) fn crossing(power: Steps, a: [Samples; THRESHOLDS], margin: Steps) -> Place
-    requires { ⌜ Searchable (margin .0) (power .0) a ⌝ }
-    ensures { λ r. ⌜ placeOf r ≡ crossingOf (margin .0) (power .0) a ⌝ }
+pub(crate) fn crossing(power: Steps, list: Thresholds, a: [Samples; PLACES], margin: Steps) -> Place
+    requires { ⌜ Searchable (margin .0) (power .0) list a ⌝ }
+    ensures { λ r. ⌜ placeOf r ≡ crossingOf (margin .0) (power .0) list a ⌝ }
 {
+    let c = list.at;
     let mut below = false;
-    let mut j = THRESHOLDS;
+    let mut j = list.count;
     while 0 < j {
         let i = j - 1;
         let count = a[i];
         if 0 < count.count() {
-            let here = steps::excess(power, count, i, margin);
+            let here = steps::excess(power, count, c[i], margin);
             if steps::is_zero(here) {
                 return Place::At(i);
             }

@@ -1,14 +1,17 @@
 // Levels in steps, their differences, sizes and signs.
 ghost use mathlib.Core.Path.{_≡_};
+ghost use Prim.Native.Nat.{_≤_};
 ghost use lib.IntN.{pos, natAbs, _+ℤ_, _-ℤ_};
 ghost use lib.Signed.{ltZ};
 ghost use Rattle.crossing.specs.Crossing.{isZero};
-ghost use Rattle.crossing.specs.Inner.Steps.{TwoSmall, OverCount, Placed, IsLevel, IsExcess};
+ghost use Rattle.crossing.specs.Levels.{levelOfThreshold};
+ghost use Rattle.crossing.specs.Inner.Steps.{TwoSmall, Sized, OverCount, Placed, IsLevel, IsExcess};
 use level::Samples;
 use level::Steps;
+use level::Units;
 
-// C_(j+1) − C_j
-const STEPS_A_THRESHOLD: usize = 8192;
+// Twice the level of one interval in units, 2^24
+const INTERVAL_STEPS: i64 = 196608;
 
 pub(crate) fn minus(x: Steps, y: Steps) -> Steps
     requires { ⌜ TwoSmall (x .0) (y .0) ⌝ }
@@ -32,13 +35,21 @@ pub(crate) fn over(power: Steps, count: Samples) -> Steps
     minus(power, count.level().steps())
 }
 
-// d_j = A_j − C_j − M, for a count a_j above 0
-pub(crate) fn excess(power: Steps, count: Samples, j: usize, margin: Steps) -> Steps
-    requires { ⌜ Placed (margin .0) (power .0) (count .0) j ⌝ }
-    ensures { λ r. ⌜ IsExcess (margin .0) (power .0) (count .0) j (r .0) ⌝ }
+// C_j: twice lev(c_j), less that of one interval
+fn of_threshold(c: u64) -> Steps
+    requires { ⌜ 1 ≤ c ⌝ }
+    ensures { λ r. ⌜ Sized 20 (levelOfThreshold c) (r .0) ⌝ }
 {
-    let threshold = (STEPS_A_THRESHOLD * j) as i64;
-    minus(minus(over(power, count), Steps::of(threshold)), margin)
+    let level = Units::of(c).level().steps();
+    minus(plus(level, level), Steps::of(INTERVAL_STEPS))
+}
+
+// d_j = A_j − C_j − M, for a count a_j above 0 at a threshold c
+pub(crate) fn excess(power: Steps, count: Samples, c: u64, margin: Steps) -> Steps
+    requires { ⌜ Placed (margin .0) (power .0) (count .0) c ⌝ }
+    ensures { λ r. ⌜ IsExcess (margin .0) (power .0) (count .0) c (r .0) ⌝ }
+{
+    minus(minus(over(power, count), of_threshold(c)), margin)
 }
 
 pub(crate) fn size(x: Steps) -> u64

@@ -12,16 +12,19 @@ use borrow.Author.Tests.{leb-true, le-leb}
 use lib.Dec.{leb, lit<}
 use lib.IntN.{ℤ}
 use lib.ListN.{getD}
-use Rattle.level.specs.Types.{thresholds, activity}
+use Rattle.level.specs.Types.{activity}
+use Rattle.thresholds.specs.declared.Thresholds.{Thresholds}
+use Rattle.thresholds.specs.Lists.{places, thresholdOf}
+use Rattle.thresholds.specs.Rising.{Rising}
 use Rattle.sample.specs.declared.Counting.{Counting}
 use Rattle.sample.specs.declared.State.{State}
 use Rattle.sample.specs.Activity.{counted, hung}
-use Rattle.sample.specs.Envelope.{interval, smooth, size, rectified, threshold}
+use Rattle.sample.specs.Envelope.{interval, smooth, size, rectified}
 use Rattle.sample.specs.Sample.{freshState, summed, counts, hangovers, stateAfterOne, stateAfter}
 use Rattle.sample.proofs.Activity.{Under, under-refl, under-step}
 use Rattle.exact.specs.Exact.{E, startAt, distance, reaches, countNext, hangoverNext, takeOne, takeAll}
 use Rattle.exact.specs.TwoCards.{Alike}
-use Rattle.exact.proofs.Tied.{power-next, countOf, hangOf, both-at}
+use Rattle.exact.proofs.Tied.{fresh-under, power-next, countOf, hangOf, both-at}
 
 -- ---- one step
 
@@ -133,20 +136,20 @@ smooth-ahead K X v v′ x x′ kG h k =
     floors (2 ^ 20) X (v * R + x * K) (v′ * R + x′ * K) (lit< tt)
     (subst (λ (g : ℕ). v * R + x * K ≤ v′ * R + x′ * K + X * g) (sub-add-cancel kG) (omega (arith, smoothed R K X 1 v v′ x x′ (omega arith) (omega arith))))
 
--- the same of two measurements, at the meter's thresholds
-pub record Leads (X : ℕ) (m m′ : State) : Type 0 where
+-- the same of two measurements, each at its own thresholds
+pub record Leads (T T′ : Thresholds) (X : ℕ) (m m′ : State) : Type 0 where
   pub p : m .sums .p ≤ m′ .sums .p + X
   pub q : m .sums .q ≤ m′ .sums .q + X
-  pub each : (i j : ℕ) → i < thresholds → j < thresholds → threshold j + X ≤ threshold i
+  pub each : (i j : ℕ) → i < T .count → j < T′ .count → thresholdOf T′ j + X ≤ thresholdOf T i
       → Under (activity (m .a) i) (getD (m .h) i 0) (activity (m′ .a) j) (getD (m′ .h) j 0)
 
-module _ (d : ℕ) (by : Counting) (kG : by .k ≤ 2 ^ 20) where
+module _ (T T′ : Thresholds) (R : Rising T) (R′ : Rising T′) (d : ℕ) (by : Counting) (kG : by .k ≤ 2 ^ 20) where
   -- the envelope after a sample
   Q : State → ℤ → ℕ
   Q m x = smooth (by .k) (m .sums .q) (smooth (by .k) (m .sums .p) (rectified (by .offset) x))
 
-  leads-step : (m m′ : State) (x x′ : ℤ) → distance (by .offset) x ≤ distance (by .offset) x′ + d → Leads (d * interval) m m′
-      → Leads (d * interval) (stateAfterOne by m x) (stateAfterOne by m′ x′)
+  leads-step : (m m′ : State) (x x′ : ℤ) → distance (by .offset) x ≤ distance (by .offset) x′ + d → Leads T T′ (d * interval) m m′
+      → Leads T T′ (d * interval) (stateAfterOne by T m x) (stateAfterOne by T′ m′ x′)
   unfolding stateAfterOne summed counts hangovers rectified size distance countOf hangOf Q
   leads-step m m′ x x′ h a =
       let X = d * interval in
@@ -156,19 +159,19 @@ module _ (d : ℕ) (by : Counting) (kG : by .k ≤ 2 ^ 20) where
       record {
         p = P;
         q = q;
-        each = λ i j k l t. both-at (countOf (by .i) (Q m x) m) (hangOf (by .i) (Q m x) m) (countOf (by .i) (Q m′ x′) m′) (hangOf (by .i) (Q m′ x′) m′) i j k l
-            (under-step (by .i) _ _ _ _ (leb (threshold i) (Q m x)) (leb (threshold j) (Q m′ x′)) (λ r. le-leb (threshold j) (Q m′ x′) (omega (arith, leb-true (threshold i) (Q m x) r, q, t))) (a .each i j k l t));
+        each = λ i j k l t. both-at (T .count) (T′ .count) (countOf T (by .i) (Q m x) m) (hangOf T (by .i) (Q m x) m) (countOf T′ (by .i) (Q m′ x′) m′) (hangOf T′ (by .i) (Q m′ x′) m′) i j (R .few) (R′ .few) k l
+            (under-step (by .i) _ _ _ _ (leb (thresholdOf T i) (Q m x)) (leb (thresholdOf T′ j) (Q m′ x′)) (λ r. le-leb (thresholdOf T′ j) (Q m′ x′) (omega (arith, leb-true (thresholdOf T i) (Q m x) r, q, t))) (a .each i j k l t));
       }
 
-  pub leads : (xs xs′ : List ℤ) → Alike d (by .offset) xs xs′ → Leads (d * interval) (stateAfter by (freshState (by .i)) xs) (stateAfter by (freshState (by .i)) xs′)
+  pub leads : (xs xs′ : List ℤ) → Alike d (by .offset) xs xs′ → Leads T T′ (d * interval) (stateAfter by T (freshState (T .count) (by .i)) xs) (stateAfter by T′ (freshState (T′ .count) (by .i)) xs′)
   unfolding freshState stateAfter
   leads xs xs′ s =
-      along (λ ys ys′. (m m′ : State) → Leads (d * interval) m m′ → Leads (d * interval) (stateAfter by m ys) (stateAfter by m′ ys′))
+      along (λ ys ys′. (m m′ : State) → Leads T T′ (d * interval) m m′ → Leads T T′ (d * interval) (stateAfter by T m ys) (stateAfter by T′ m′ ys′))
       (λ m m′ a. a)
       (λ x x′ ys ys′ h rest m m′ a. rest _ _ (leads-step m m′ x x′ h a))
-      xs xs′ s (freshState (by .i)) (freshState (by .i))
+      xs xs′ s (freshState (T .count) (by .i)) (freshState (T′ .count) (by .i))
       (record {
         p = zero-le;
         q = zero-le;
-        each = λ i j k l t. both-at (λ r. 0) (λ r. by .i) (λ r. 0) (λ r. by .i) i j k l (under-refl 0 (by .i));
+        each = λ i j k l t. fresh-under T T′ R R′ (by .i) i j k l;
       })

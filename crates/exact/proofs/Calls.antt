@@ -1,5 +1,5 @@
 -- Calls: the meter accepts what E accepts, and the tie is kept by every call, accepted or refused.
-use mathlib.Core.Bool.{Bool, true, false, cond, not, _&&_}
+use mathlib.Core.Bool.{Bool, true, false, cond, not, _&&_, _||_}
 use mathlib.Core.List.{List, [], _∷_, _++_}
 use mathlib.Core.Logic.{_↔_}
 use mathlib.Core.Path.{_≡_, refl, sym, _∙_, ap, ap₂, subst}
@@ -17,7 +17,7 @@ use Rattle.refusal.proofs.Laws.{both}
 use Rattle.rate.specs.Rates.{rowOf, isNamed}
 use Rattle.rate.proofs.Laws.{row-keeps}
 use Rattle.setting.specs.declared.Setting.{Setting}
-use Rattle.setting.specs.Settings.{kOf, iOf, wrongMargin}
+use Rattle.setting.specs.Settings.{kOf, iOf, usualSetting, wrongMargin}
 use Rattle.coding.specs.Numbers.{numberAt}
 use Rattle.coding.specs.Samples.{samplesAt}
 use Rattle.coding.specs.Typed.{AllSamples}
@@ -37,6 +37,9 @@ use Rattle.exact.specs.Calls.{Call, chunk, block, Typed, broughtBy}
 use Rattle.exact.specs.Demands.{TypedOffset, exactAt}
 use Rattle.exact.specs.Exact.{E, startAt, start, takeAll, accepts, fed, exactly, answersOfE, took}
 use Rattle.exact.specs.Lists.{called, accepted, after, answers, taken}
+use Rattle.thresholds.specs.Lists.{builtIn, wrongLength, wrongEntry, wrongEnd, unloadable, listRules}
+use Rattle.thresholds.proofs.Below.{neither}
+use Rattle.thresholds.proofs.Laws.{built-in-loads, loaded, rising}
 use Rattle.exact.proofs.Tied.{by, Tied, same-code, same-K, same-I, same-o, total, tied-samples, tied-fresh}
 
 -- ---- the invariant
@@ -49,8 +52,9 @@ pub record Good (m : Meter) (e : E) : Type 0 where
   pub offset : m .setting .offset ≡ e .o
   pub offset-fits : SFits w16 (e .o)
   pub margin : wrongMargin (m .setting .margin .0) ≡ false
+  pub list : unloadable (m .setting .thresholds) ≡ false
   pub few : m .state .sums .n .0 ≤ mostSamples
-  pub tied : Tied (rowOf (e .code) .d) (m .state) e
+  pub tied : Tied (m .setting .thresholds) (rowOf (e .code) .d) (m .state) e
 
 module _ (m : Meter) (e : E) (g : Good m e) where
   i-of : iOf (m .setting) ≡ e .I
@@ -69,6 +73,7 @@ module _ (m : Meter) (e : E) (g : Good m e) where
       record {
         named = ap isNamed (g .code) ∙ g .named;
         margin = g .margin;
+        list = g .list;
         n-max = g .few;
         s-max = t .sum;
         sq-max = t .squares;
@@ -78,6 +83,8 @@ module _ (m : Meter) (e : E) (g : Good m e) where
         a-max = λ j l. t .each j l .few;
         a-falls = λ j l. t .falls j (omega arith) .count;
         h-rises = λ j l. t .falls j (omega arith) .hang;
+        a-past = t .a-past;
+        h-past = t .h-past;
       }
 
   -- the meter accepts what E accepts: no rule of the call applies
@@ -167,15 +174,16 @@ module _ (m : Meter) (e : E) (g : Good m e) where
         offset = g .offset ∙ sym (same-o xs e);
         offset-fits = subst (SFits w16) (sym (same-o xs e)) (g .offset-fits);
         margin = g .margin;
+        list = g .list;
         few = subst (λ (n : ℕ). n ≤ mostSamples) (sym (tied-on .taken ∙ total xs e)) room;
-        tied = subst (λ (c : ℕ). Tied (rowOf c .d) (stateAfter (countingOf (m .setting)) (m .state) xs) (takeAll e xs)) (sym (same-code xs e)) tied-on;
+        tied = subst (λ (c : ℕ). Tied (m .setting .thresholds) (rowOf c .d) (stateAfter (countingOf (m .setting)) (m .setting .thresholds) (m .state) xs) (takeAll e xs)) (sym (same-code xs e)) tied-on;
       }
     where
-      tied-on : Tied (rowOf (e .code) .d) (stateAfter (countingOf (m .setting)) (m .state) xs) (takeAll e xs)
+      tied-on : Tied (m .setting .thresholds) (rowOf (e .code) .d) (stateAfter (countingOf (m .setting)) (m .setting .thresholds) (m .state) xs) (takeAll e xs)
       tied-on =
           let r = row-keeps (e .code) (g .named) in
-          subst (λ (c : Counting). Tied (rowOf (e .code) .d) (stateAfter c (m .state) xs) (takeAll e xs)) (sym by-of)
-          (tied-samples (rowOf (e .code) .d) xs (m .state) e
+          subst (λ (c : Counting). Tied (m .setting .thresholds) (rowOf (e .code) .d) (stateAfter c (m .setting .thresholds) (m .state) xs) (takeAll e xs)) (sym by-of)
+          (tied-samples (m .setting .thresholds) (rising _ (loaded _ (g .list))) (rowOf (e .code) .d) xs (m .state) e
           (subst (λ (k : ℕ). 1 ≤ k) (sym (g .K-is)) (r .k-low))
           (subst (λ (k : ℕ). k ≤ smoothing) (sym (g .K-is)) (r .k-high))
           (subst (λ (k : ℕ). 2 ^ 21 ≤ rowOf (e .code) .d * k) (sym (g .K-is)) (r .d-rule .not-below))
@@ -249,25 +257,48 @@ same-samples (call ∷ calls) m e f g =
 
 -- ---- from the opening on
 
--- neither 1 nor 17 applies to a setting that opening accepts
-pub accepted-setting : (c : Setting) → openCall c .number ≡ 0 → (isNamed (c .code) ≡ true) × (wrongMargin (c .margin .0) ≡ false)
-unfolding NoneApplies openRules unnamedCode
-accepted-setting c z = let n = open-given c .0 .accepted .0 z in (not-false _ (n .0), n .1 .0)
+-- none of 1, 17, 19, 20 and 21 applies to a setting that opening accepts
+pub record Accepted (c : Setting) : Type 0 where
+  pub named : isNamed (c .code) ≡ true
+  pub margin : wrongMargin (c .margin .0) ≡ false
+  pub list : unloadable (c .thresholds) ≡ false
 
-good-fresh : (c : Setting) → TypedOffset c → (isNamed (c .code) ≡ true) × (wrongMargin (c .margin .0) ≡ false) → Good (fresh c) (exactAt c)
-unfolding start startAt fresh iOf freshState
+pub accepted-setting : (c : Setting) → openCall c .number ≡ 0 → Accepted c
+unfolding NoneApplies openRules listRules unnamedCode unloadable
+accepted-setting c z =
+    let n = open-given c .0 .accepted .0 z in
+    record { named = not-false _ (n .0); margin = n .1 .0; list = simp (n .1 .1 .0, n .1 .1 .1 .0, n .1 .1 .1 .1 .0) }
+
+-- the usual setting of a code that names a rate is one of those
+pub usual-opens : (code : ℕ) → isNamed code ≡ true → openCall (usualSetting code) .number ≡ 0
+unfolding NoneApplies openRules listRules unnamedCode wrongMargin unloadable
+usual-opens code n =
+    let l = neither (wrongLength builtIn) (wrongEntry builtIn || wrongEnd builtIn) built-in-loads in
+    let k = neither (wrongEntry builtIn) (wrongEnd builtIn) (l .1) in
+    open-given (usualSetting code) .0 .accepted .1 (ap not n, (refl, (l .0, (k .0, (k .1, tt)))))
+
+none-yet : (k I : ℕ) → freshState k I .sums .n .0 ≤ mostSamples
+unfolding freshState
+none-yet k I = zero-le
+
+good-fresh : (c : Setting) → TypedOffset c → Accepted c → Good (fresh c) (exactAt c)
+unfolding start startAt fresh iOf
 good-fresh c t n =
     record {
-      named = n .0;
+      named = n .named;
       K-is = refl;
       I-is = refl;
       code = refl;
       offset = refl;
       offset-fits = t;
-      margin = n .1;
-      few = zero-le;
-      tied = tied-fresh (rowOf (c .code) .d) (c .code) (rowOf (c .code) .k) (rowOf (c .code) .i) (c .offset);
+      margin = n .margin;
+      list = n .list;
+      few = fresh-few c;
+      tied = tied-fresh (c .thresholds) (rising _ (loaded _ (n .list))) (rowOf (c .code) .d) (c .code) (rowOf (c .code) .k) (rowOf (c .code) .i) (c .offset);
     }
+  where
+    fresh-few : (c : Setting) → freshState (c .thresholds .count) (rowOf (c .code) .i) .sums .n .0 ≤ mostSamples
+    fresh-few c = none-yet (c .thresholds .count) (rowOf (c .code) .i)
 
 pub good-open : (c : Setting) → TypedOffset c → openCall c .number ≡ 0 → Good (openCall c .meter) (exactAt c)
 good-open c t z = subst (λ (m : Meter). Good m (exactAt c)) (sym (opened c z)) (good-fresh c t (accepted-setting c z))

@@ -2,12 +2,14 @@
 use mathlib.Core.Path.{sym, subst}
 use Rattle.block.proofs.Laws.{host-given}
 use Rattle.block.proofs.Made.{write-given, unwritten, afresh}
-use Rattle.sample.proofs.Thresholds.{worked-out}
+use Rattle.thresholds.proofs.Laws.{built-in-is, built-in-past}
+use Rattle.crossing.proofs.BuiltIn.{built-in-level}
 use Rattle.meter.specs.Opened.{Fresh}
 use Rattle.meter.proofs.Laws.{open-given, chunk-given, block-given, report-given, refused-chunk, refused-block, report-meter, refused-report, refused-open, zeros-chunk, zeros-block, zeros-report, opened, fresh-fields, factor-never-above, percent-never-smaller, block-taken, block-samples, chunk-samples, empty-chunk}
 use Rattle.meter.proofs.Outcome.{answered}
 use Rattle.exact.specs.Claim.{Claim}
 use Rattle.exact.specs.Demands.{Demand1, Demand2}
+use Rattle.exact.proofs.Calls.{usual-opens}
 use Rattle.exact.proofs.Crossings.{highest-lowest, unaffected}
 use Rattle.exact.proofs.Demand3.{demand3}
 use Rattle.exact.proofs.Lost.{nothing-lost, measured}
@@ -44,7 +46,10 @@ demand2 =
       measured = measured;
       no-offset = no-offset;
       any-margin = any-margin;
-      worked-out = λ j l. worked-out j;
+      built-in = built-in-is;
+      built-in-past = built-in-past;
+      built-in-levels = built-in-level;
+      usual-opens = usual-opens;
       reported = answered;
       factor = factor-never-above;
       highest-lowest = highest-lowest;

@@ -5,7 +5,6 @@ use mathlib.Core.Logic.{_↔_}
 use mathlib.Core.Path.{_≡_, refl}
 use Prim.Native.Nat.{ℕ, _<_}
 use native.Mathlib.Nat.{lt-trans}
-use Rattle.level.specs.Types.{thresholds}
 use Rattle.crossing.proofs.Searching.{Highest, Lowest, highest-lowest as search-law}
 use Rattle.meter.specs.declared.Meter.{Meter}
 use Rattle.meter.specs.Answered.{CrossingAt, Used, Active}
@@ -16,21 +15,21 @@ use Rattle.meter.proofs.Outcome.{crosses, no-crossing, highest-used, answered}
 use Rattle.exact.specs.Demands.{LowestCrossing}
 
 module _ (m : Meter) where
-  not-there : (i : ℕ) → i < thresholds → (CrossingAt m i → ⊥) → crosses m i ≡ false
+  not-there : (i : ℕ) → i < m .setting .thresholds .count → (CrossingAt m i → ⊥) → crosses m i ≡ false
   not-there i l none = go (crosses m i) refl
     where
       go : (t : Bool) → crosses m i ≡ t → t ≡ false
       go true e = absurd (none (record { place = l; crosses = e }))
       go false e = refl
 
-  used-highest : (j : ℕ) → Used m j → Highest (crosses m) thresholds j
+  used-highest : (j : ℕ) → Used m j → Highest (crosses m) (m .setting .thresholds .count) j
   used-highest j u =
       record { place = u .crossing .place; holds = u .crossing .crosses; none-higher = λ i l b. not-there i b (u .none-higher i l) }
 
-  lowest-crossing : (j : ℕ) → Lowest (crosses m) thresholds j → LowestCrossing m j
+  lowest-crossing : (j : ℕ) → Lowest (crosses m) (m .setting .thresholds .count) j → LowestCrossing m j
   lowest-crossing j h = record { crossing = record { place = h .place; crosses = h .holds }; none-lower = λ i l. no-crossing m i (h .none-lower i l) }
 
-  crossing-lowest : (j : ℕ) → LowestCrossing m j → Lowest (crosses m) thresholds j
+  crossing-lowest : (j : ℕ) → LowestCrossing m j → Lowest (crosses m) (m .setting .thresholds .count) j
   crossing-lowest j c =
       record {
         place = c .crossing .place;
@@ -40,7 +39,7 @@ module _ (m : Meter) where
 
   pub highest-lowest : ((j : ℕ) × Used m j) ↔ ((j : ℕ) × LowestCrossing m j)
   highest-lowest =
-      let law = search-law (crosses m) thresholds in (
+      let law = search-law (crosses m) (m .setting .thresholds .count) in (
         λ s. let r = law .0 (s .0, used-highest (s .0) (s .1)) in (r .0, lowest-crossing (r .0) (r .1)),
         λ s. let r = law .1 (s .0, crossing-lowest (s .0) (s .1)) in (r .0, highest-used m (r .0) (r .1)),
       )

@@ -1,16 +1,25 @@
 -- Demand 3: `demand3`. After any list of calls the meter and E are tied, and each clause reads one part of the tie; the report is METHOD.md's by
 -- `answered`, and the level clauses are the bounds of any crossing, with the counts' orders put in.
-use mathlib.Core.Bool.{Bool, true, false, cond}
+use mathlib.Core.Bool.{Bool, true, false, cond, false≢true}
 use mathlib.Core.List.{List, [], _∷_}
-use mathlib.Core.Path.{_≡_, refl, sym, _∙_, subst}
+use mathlib.Core.Path.{_≡_, refl, sym, ap, _∙_, subst, subst₂}
 use Prim.Native.Nat.{ℕ, _+_, _*_, _^_, _≤_, _<_}
 use native.Mathlib.Omega.{arith}
-use Rattle.level.specs.Types.{thresholds, activity, twoWords}
+use borrow.Author.Tests.{lt-ltb, ltb-true, leb-true}
+use lib.IntN.{ℤ, pos, negsuc, _+ℤ_}
+use lib.Signed.{ltZ, leZ}
+use Rattle.level.specs.Types.{activity, twoWords}
+use Rattle.thresholds.specs.declared.Thresholds.{Thresholds}
+use Rattle.thresholds.specs.Lists.{places, builtIn, builtInCount, thresholdOf}
+use Rattle.crossing.specs.Crossing.{activeLevel}
+use Rattle.crossing.specs.Exponents.{above, below}
+use Rattle.thresholds.proofs.Laws.{built-in-count, loaded}
 use Rattle.rate.specs.Rates.{rowOf}
 use Rattle.setting.specs.declared.Setting.{Setting}
 use Rattle.setting.specs.Settings.{dOf}
-use Rattle.sample.specs.Envelope.{threshold}
-use Rattle.crossing.proofs.Bounds.{Crossed, Bounded, bounded}
+use Rattle.crossing.specs.Levels.{levelOfThreshold}
+use Rattle.crossing.proofs.Bounds.{Crossed, Bounded, bounded, over-margin}
+use Rattle.crossing.proofs.BuiltIn.{built-in-level}
 use Rattle.meter.specs.declared.Meter.{Meter}
 use Rattle.meter.specs.declared.Report.{Report}
 use Rattle.meter.specs.Answered.{powerOf}
@@ -21,10 +30,10 @@ use Rattle.meter.proofs.Laws.{Levels, with-levels, crossing-of}
 use Rattle.meter.proofs.Outcome.{answered}
 use Rattle.meter.proofs.Possible.{passes, falling}
 use Rattle.exact.specs.Calls.{Call, Typed, broughtBy}
-use Rattle.exact.specs.Demands.{TypedOffset, Opens, meterAfter, exactAt, exactAfter, countAt, LevelBounds, Demand3}
+use Rattle.exact.specs.Demands.{TypedOffset, Opens, meterAfter, exactAt, exactAfter, countAt, LevelBounds, EmptyAt, Demand3}
 use Rattle.exact.specs.Exact.{E, start, startAt, takeAll, accepts, fed, exactly}
 use Rattle.exact.proofs.Calls.{Good, good-possible, good-after, good-open, same-answers, same-samples}
-use Rattle.exact.proofs.Lost.{exact-squares}
+use Rattle.exact.proofs.Lost.{measured, exact-squares}
 use Rattle.exact.proofs.Tied.{same-code}
 
 -- E keeps its code
@@ -44,28 +53,61 @@ start-code c = refl
 -- ---- the levels
 
 module _ (m : Meter) (e : E) (g : Good m e) (r : Report) (L : Levels m r) where
-  cross : Crossed (marginOf m) (powerOf m) (m .state .a) (L .j)
+  cross : Crossed (marginOf m) (powerOf m) (m .setting .thresholds) (m .state .a) (L .j)
   cross = crossing-of m (good-possible m e g) (L .j) (L .used .crossing)
 
-  bounds : Bounded (marginOf m) (twoWords (m .state .sums .sq)) (m .state .a) (L .j) (countAt e (threshold (cross .i))) (countAt e (threshold (L .j) + rowOf (e .code) .d))
+  abbrev T : Thresholds
+  T = m .setting .thresholds
+
+  bounds : Bounded (marginOf m) (twoWords (m .state .sums .sq)) T (m .state .a) (L .j) (countAt e (thresholdOf T (cross .i))) (countAt e (thresholdOf T (L .j) + rowOf (e .code) .d))
   bounds =
       let at = L .used .crossing .place in
-      let below : cross .i < thresholds = omega (arith, cross .reach) in
-      bounded (marginOf m) (twoWords (m .state .sums .sq)) (m .state .a) (L .j) _ _ (margin-range (marginOf m) (g .margin) .above-zero) (L .sq-pos) (omega (arith, g .tied .squares, g .few)) cross
-      (omega (arith, g .tied .each (cross .i) below .few, g .few)) (g .tied .each (cross .i) below .high .count) (g .tied .each (L .j) at .low .count)
+      let low : cross .i < T .count = omega (arith, cross .reach) in
+      bounded (marginOf m) (twoWords (m .state .sums .sq)) T (m .state .a) (L .j) _ _ (L .sq-pos) (omega (arith, g .tied .squares, g .few)) cross
+      (omega (arith, g .tied .each (cross .i) low .few, g .few)) (g .tied .each (cross .i) low .high .count) (g .tied .each (L .j) at .low .count)
 
-  pub level-bounds : LevelBounds r e (rowOf (e .code) .d)
+  -- A is at least C_lower + M
+  over : leZ (levelOfThreshold (thresholdOf T (r .levels .lower)) +ℤ marginOf m) (r .levels .active .0) ≡ true
+  over =
+      subst₂ (λ (i : ℕ) (A : ℤ). leZ (levelOfThreshold (thresholdOf T i) +ℤ marginOf m) A ≡ true) (sym (L .report .lower ∙ cross .lower)) (sym (L .report .A))
+      (over-margin (marginOf m) _ T (m .state .a) (L .j) cross)
+
+  -- so above 0, where the list is the built-in one
+  pub over-zero : T ≡ builtIn → ltZ (pos 0) (r .levels .active .0) ≡ true
+  over-zero b =
+      let i = r .levels .lower in
+      let low : i < builtInCount = omega (arith, L .report .lower ∙ cross .lower, cross .reach, L .used .crossing .place, ap (λ (t : Thresholds). t .count) b, built-in-count) in
+      let C : levelOfThreshold (thresholdOf T i) ≡ pos (8192 * i) = ap (λ (t : Thresholds). levelOfThreshold (thresholdOf t i)) b ∙ built-in-level i low in
+      more (8192 * i) (marginOf m) _ (margin-range (marginOf m) (g .margin) .above-zero) (ap (λ (z : ℤ). leZ (z +ℤ marginOf m) (r .levels .active .0)) (sym C) ∙ over)
+    where
+      more : (c : ℕ) (M A : ℤ) → ltZ (pos 0) M ≡ true → leZ (pos c +ℤ M) A ≡ true → ltZ (pos 0) A ≡ true
+      more c (pos n) (pos a) h k = lt-ltb 0 a (omega (arith, ltb-true 0 n h, leb-true (c + n) a k))
+      more c (pos n) (negsuc a) h k = absurd (false≢true k)
+      more c (negsuc n) A h k = absurd (false≢true h)
+
+  pub level-bounds : LevelBounds T (marginOf m) r e (rowOf (e .code) .d)
   level-bounds =
       let b = bounds in
+      let D = rowOf (e .code) .d in
+      let l = sym (L .report .lower ∙ cross .lower) in
+      let u = sym (L .report .upper) in
       record {
-        A = b .A;
-        reported = L .report .A ∙ b .reported;
-        above-zero = b .above-zero;
-        plus-two = subst (λ (s : ℕ). s ^ 4096 < 2 ^ (b .A + 2) * countAt e (threshold (r .levels .lower)) ^ 4096) (g .tied .power)
-            (subst (λ (i : ℕ). twoWords (m .state .sums .sq) ^ 4096 < 2 ^ (b .A + 2) * countAt e (threshold i) ^ 4096) (sym (L .report .lower ∙ cross .lower)) (b .plus));
-        less-two = subst (λ (s : ℕ). 2 ^ b .A * countAt e (threshold (r .levels .upper) + rowOf (e .code) .d) ^ 4096 < 4 * s ^ 4096) (g .tied .power)
-            (subst (λ (i : ℕ). 2 ^ b .A * countAt e (threshold i + rowOf (e .code) .d) ^ 4096 < 4 * twoWords (m .state .sums .sq) ^ 4096) (sym (L .report .upper)) (b .less));
+        at-least-margin = over;
+        plus-two = subst₂ (λ (A : ℤ) (i : ℕ). e .sq ^ 4096 * 2 ^ below (A +ℤ pos 2) < 2 ^ above (A +ℤ pos 2) * countAt e (thresholdOf T i) ^ 4096) (sym (L .report .A)) l
+            (subst (λ (s : ℕ). s ^ 4096 * 2 ^ below (activeLevel (marginOf m) (powerOf m) T (m .state .a) (L .j) +ℤ pos 2) < 2 ^ above (activeLevel (marginOf m) (powerOf m) T (m .state .a) (L .j) +ℤ pos 2) * countAt e (thresholdOf T (cross .i)) ^ 4096) (g .tied .power) (b .plus));
+        less-two = subst₂ (λ (A : ℤ) (i : ℕ). 2 ^ above A * countAt e (thresholdOf T i + D) ^ 4096 < 4 * 2 ^ below A * e .sq ^ 4096) (sym (L .report .A)) u
+            (subst (λ (s : ℕ). 2 ^ above (activeLevel (marginOf m) (powerOf m) T (m .state .a) (L .j)) * countAt e (thresholdOf T (L .j) + D) ^ 4096 < 4 * 2 ^ below (activeLevel (marginOf m) (powerOf m) T (m .state .a) (L .j)) * s ^ 4096) (g .tied .power) (b .less));
       }
+
+-- ---- past the end of the list
+
+empty-at : (m : Meter) (e : E) → Good m e → (j : ℕ) → m .setting .thresholds .count ≤ j → j < places → EmptyAt m j
+empty-at m e g j l h =
+    record {
+      threshold = loaded (m .setting .thresholds) (g .list) .zero-past j l h;
+      count = omega (arith, g .tied .a-past j h l);
+      hangover = omega (arith, g .tied .h-past j h l);
+    }
 
 -- ---- the whole
 
@@ -79,13 +121,21 @@ demand3 c calls t z f =
       same-calls = same-answers calls (openCall c .meter) (exactAt c) f first;
       same-samples = same-samples calls (openCall c .meter) (exactAt c) f first;
       exact-squares = exact-squares c calls;
-      at-most = λ j l. g .tied .each j l .high .count;
-      at-least = λ j l. subst (λ (k : ℕ). countAt (exactAfter c calls) (threshold j + rowOf k .d) ≤ activity (meterAfter c calls .state .a) j) code-is (g .tied .each j l .low .count);
-      never-rises = falling (meterAfter c calls) (good-possible _ _ g);
+      at-most = subst (λ (T : Thresholds). (j : ℕ) → j < T .count → activity (meterAfter c calls .state .a) j ≤ countAt (exactAfter c calls) (thresholdOf T j)) list-is (λ j l. g .tied .each j l .high .count);
+      at-least = subst₂ (λ (T : Thresholds) (k : ℕ). (j : ℕ) → j < T .count → countAt (exactAfter c calls) (thresholdOf T j + rowOf k .d) ≤ activity (meterAfter c calls .state .a) j) list-is code-is (λ j l. g .tied .each j l .low .count);
+      never-rises = subst (λ (T : Thresholds). (i j : ℕ) → i ≤ j → j < T .count → activity (meterAfter c calls .state .a) j ≤ activity (meterAfter c calls .state .a) i) list-is (falling (meterAfter c calls) (good-possible _ _ g));
+      past-end = subst (λ (T : Thresholds). (j : ℕ) → T .count ≤ j → j < places → EmptyAt (meterAfter c calls) j) list-is (empty-at _ _ g);
       report = answered (meterAfter c calls) ok;
-      levels = λ e. subst (λ (k : ℕ). LevelBounds (reportCall (meterAfter c calls) .report) (exactAfter c calls) (rowOf k .d)) code-is
+      levels = λ e. subst₂ (λ (s : Setting) (k : ℕ). LevelBounds (s .thresholds) (s .margin .0) (reportCall (meterAfter c calls) .report) (exactAfter c calls) (rowOf k .d)) setting-is code-is
           (level-bounds (meterAfter c calls) (exactAfter c calls) g _ (with-levels (answered (meterAfter c calls) ok) e));
+      above-zero = λ b e. over-zero (meterAfter c calls) (exactAfter c calls) g _ (with-levels (answered (meterAfter c calls) ok) e) (list-is ∙ b);
     }
   where
     code-is : exactAfter c calls .code ≡ c .code
     code-is = kept-code calls (exactAt c) ∙ start-code c
+
+    setting-is : meterAfter c calls .setting ≡ c
+    setting-is = ap (λ (m : Meter). m .setting) (measured c calls z)
+
+    list-is : meterAfter c calls .setting .thresholds ≡ c .thresholds
+    list-is = ap (λ (s : Setting). s .thresholds) setting-is

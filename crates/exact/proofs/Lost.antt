@@ -17,6 +17,7 @@ use Rattle.sample.specs.declared.Counting.{Counting}
 use Rattle.sample.specs.declared.State.{State}
 use Rattle.sample.specs.declared.Sums.{Sums}
 use Rattle.sample.specs.Envelope.{size}
+use Rattle.thresholds.specs.declared.Thresholds.{Thresholds}
 use Rattle.sample.specs.Sample.{freshState, summed, stateAfterOne, stateAfter}
 use Rattle.meter.specs.declared.Meter.{Meter}
 use Rattle.meter.specs.Calls.{fresh, countingOf, afterSamples}
@@ -30,10 +31,10 @@ use Rattle.exact.proofs.Calls.{good-possible, good-after, good-open, ha
 
 -- ---- the samples of a list of calls, as one list
 
-samples-append : (c : Counting) (xs ys : List ℤ) (m : State) → stateAfter c m (xs ++ ys) ≡ stateAfter c (stateAfter c m xs) ys
+samples-append : (c : Counting) (T : Thresholds) (xs ys : List ℤ) (m : State) → stateAfter c T m (xs ++ ys) ≡ stateAfter c T (stateAfter c T m xs) ys
 unfolding stateAfter
-samples-append c [] ys m = refl
-samples-append c (x ∷ xs) ys m = samples-append c xs ys (stateAfterOne c m x)
+samples-append c T [] ys m = refl
+samples-append c T (x ∷ xs) ys m = samples-append c T xs ys (stateAfterOne c T m x)
 
 take-append : (xs ys : List ℤ) (e : E) → takeAll e (xs ++ ys) ≡ takeAll (takeAll e xs) ys
 unfolding takeAll
@@ -48,7 +49,7 @@ after-is (call ∷ calls) m =
     after-is calls n ∙ ap (λ (k : Meter). afterSamples k (taken n calls)) (handed-meter m call) ∙ go (accepted m call) (taken n calls)
   where
     go : (t : Bool) (rest : List ℤ) → afterSamples (cond t (afterSamples m (broughtBy call)) m) rest ≡ afterSamples m (cond t (broughtBy call) [] ++ rest)
-    go true rest = ap (λ (s : State). record { setting = m .setting; state = s }) (sym (samples-append (countingOf (m .setting)) (broughtBy call) rest (m .state)))
+    go true rest = ap (λ (s : State). record { setting = m .setting; state = s }) (sym (samples-append (countingOf (m .setting)) (m .setting .thresholds) (broughtBy call) rest (m .state)))
     go false rest = refl
 
 pub exactly-is : (calls : List Call) (e : E) → exactly e calls ≡ takeAll e (took e calls)
@@ -62,17 +63,17 @@ exactly-is (call ∷ calls) e = exactly-is calls (fed e call) ∙ go (accepts e 
 
 -- from the opening on
 pub measured : (c : Setting) (calls : List Call) → Opens c
-    → meterAfter c calls ≡ record { setting = c; state = stateAfter (countingOf c) (freshState (iOf c)) (takenFrom c calls) }
+    → meterAfter c calls ≡ record { setting = c; state = stateAfter (countingOf c) (c .thresholds) (freshState (c .thresholds .count) (iOf c)) (takenFrom c calls) }
 unfolding afterSamples fresh
 measured c calls z = after-is calls _ ∙ ap (λ (m : Meter). afterSamples m (takenFrom c calls)) (opened c z)
 
--- the measurement of samples at a code and an offset
-unfoldable pub measurement : (code : ℕ) (o : ℤ) → List ℤ → State
-measurement code o xs =
+-- the measurement of samples at a code and an offset, with a list
+unfoldable pub measurement : Thresholds → (code : ℕ) (o : ℤ) → List ℤ → State
+measurement T code o xs =
     let r = rowOf code in
-    stateAfter (record { k = r .k; i = r .i; offset = o }) (freshState (r .i)) xs
+    stateAfter (record { k = r .k; i = r .i; offset = o }) T (freshState (T .count) (r .i)) xs
 
-pub state-is : (c : Setting) (calls : List Call) → Opens c → meterAfter c calls .state ≡ measurement (c .code) (c .offset) (takenFrom c calls)
+pub state-is : (c : Setting) (calls : List Call) → Opens c → meterAfter c calls .state ≡ measurement (c .thresholds) (c .code) (c .offset) (takenFrom c calls)
 unfolding measurement countingOf kOf iOf
 state-is c calls z = ap (λ (m : Meter). m .state) (measured c calls z)
 
@@ -84,11 +85,11 @@ record Grown (o : ℤ) (xs : List ℤ) (m m′ : Sums) : Type 0 where
   s : m′ .s ≡ m .s +ℤ sum xs
   squares : twoWords (m′ .sq) ≡ twoWords (m .sq) + sumOfSquares o xs
 
-grown : (c : Counting) (xs : List ℤ) (m : State) → Grown (c .offset) xs (m .sums) (stateAfter c m xs .sums)
+grown : (c : Counting) (T : Thresholds) (xs : List ℤ) (m : State) → Grown (c .offset) xs (m .sums) (stateAfter c T m xs .sums)
 unfolding stateAfter stateAfterOne summed size sum sumOfSquares
-grown c [] m = record { n = omega arith; s = sym (+ℤ-idr (m .sums .s)); squares = omega arith }
-grown c (x ∷ xs) m =
-    let g = grown c xs (stateAfterOne c m x) in
+grown c T [] m = record { n = omega arith; s = sym (+ℤ-idr (m .sums .s)); squares = omega arith }
+grown c T (x ∷ xs) m =
+    let g = grown c T xs (stateAfterOne c T m x) in
     record {
       n = omega (arith, g .n);
       s = g .s ∙ +ℤ-assoc (m .sums .s) x (sum xs);
@@ -108,7 +109,7 @@ pub nothing-lost : (c : Setting) (calls : List Call) → TypedOffset c → Opens
 unfolding freshState countingOf
 nothing-lost c calls t z f =
     let e = measured c calls z in
-    let g = grown (countingOf c) (takenFrom c calls) (freshState (iOf c)) in
+    let g = grown (countingOf c) (c .thresholds) (takenFrom c calls) (freshState (c .thresholds .count) (iOf c)) in
     record {
       total = ap (λ (m : Meter). m .state .sums .n .0) e ∙ g .n ∙ zero-add _;
       sums = ap (λ (m : Meter). m .state .sums .s) e ∙ g .s ∙ +ℤ-idl _;

@@ -3,12 +3,14 @@ use mathlib.Core.List.{List, [], _∷_}
 use mathlib.Core.Path.{_≡_, refl, sym, ap, ap₂, _∙_}
 use Prim.Native.Nat.{ℕ, _+_, _*_, _^_}
 use lib.IntN.{ℤ, pos, negsuc, natAbs, _+ℤ_, _*ℤ_, +ℤ-idr, pos-*ℤ-pos, negsuc-*ℤ-negsuc}
-use Rattle.level.specs.Types.{samplesOf, thresholds, twoWords, words}
+use Rattle.level.specs.Types.{samplesOf, twoWords, words}
+use Rattle.thresholds.specs.declared.Thresholds.{Thresholds}
+use Rattle.thresholds.specs.Lists.{thresholdOf}
 use Rattle.setting.specs.Settings.{kOf, iOf}
 use Rattle.sample.specs.declared.Counting.{Counting}
 use Rattle.sample.specs.declared.State.{State}
 use Rattle.sample.specs.declared.Sums.{Sums}
-use Rattle.sample.specs.Envelope.{smooth, size, rectified, threshold}
+use Rattle.sample.specs.Envelope.{smooth, size, rectified}
 use Rattle.sample.specs.Sample.{freshState, summed, counts, hangovers, stateAfterOne, stateAfter}
 use Rattle.meter.specs.Calls.{fresh, countingOf, afterSamples}
 use Rattle.exact.specs.NoOffset.{rawSums, rawAfterOne, rawAfter, NoOffset}
@@ -34,16 +36,16 @@ sums-are K I m x = ap₂ sums (size-is x) (ap (λ (y : ℕ). y * y) (size-is x) 
         let P = smooth K (m .p) (y * 2 ^ 24) in
         record { n = samplesOf (m .n .0 + 1); s = m .s +ℤ x; sq = words (twoWords (m .sq) + z); p = P; q = smooth K (m .q) P }
 
-after-is : (K I : ℕ) (xs : List ℤ) (m : State) → stateAfter (raw K I) m xs ≡ rawAfter K I m xs
+after-is : (T : Thresholds) (K I : ℕ) (xs : List ℤ) (m : State) → stateAfter (raw K I) T m xs ≡ rawAfter T K I m xs
 unfolding stateAfter rawAfter stateAfterOne rawAfterOne
-after-is K I [] m = refl
-after-is K I (x ∷ xs) m =
-    ap (λ (s : Sums). stateAfter (raw K I) (record { sums = s; a = counts threshold thresholds I (s .q) (m .a) (m .h); h = hangovers threshold thresholds I (s .q) (m .h) }) xs)
+after-is T K I [] m = refl
+after-is T K I (x ∷ xs) m =
+    ap (λ (s : Sums). stateAfter (raw K I) T (record { sums = s; a = counts (thresholdOf T) (T .count) I (s .q) (m .a) (m .h); h = hangovers (thresholdOf T) (T .count) I (s .q) (m .h) }) xs)
     (sums-are K I (m .sums) x)
-    ∙ after-is K I xs (rawAfterOne K I m x)
+    ∙ after-is T K I xs (rawAfterOne T K I m x)
 
 pub no-offset : NoOffset
 unfolding afterSamples fresh countingOf
 no-offset c xs e =
-    ap (λ (o : ℤ). stateAfter (record { k = kOf c; i = iOf c; offset = o }) (freshState (iOf c)) xs) e
-    ∙ after-is (kOf c) (iOf c) xs (freshState (iOf c))
+    ap (λ (o : ℤ). stateAfter (record { k = kOf c; i = iOf c; offset = o }) (c .thresholds) (freshState (c .thresholds .count) (iOf c)) xs) e
+    ∙ after-is (c .thresholds) (kOf c) (iOf c) xs (freshState (c .thresholds .count) (iOf c))

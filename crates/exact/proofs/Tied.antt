@@ -14,19 +14,21 @@ use lib.ListN.{getD, length}
 use mir.Syntax.{w16}
 use mir.Val.{SFits}
 use Rattle.level.specs.declared.Samples.{Samples}
-use Rattle.level.specs.Types.{samplesOf, thresholds, activity, twoWords}
+use Rattle.level.specs.Types.{samplesOf, activity, twoWords}
+use Rattle.thresholds.specs.declared.Thresholds.{Thresholds}
+use Rattle.thresholds.specs.Lists.{places, thresholdOf}
+use Rattle.thresholds.specs.Rising.{Rising}
 use Rattle.level.proofs.Words.{two-of-words}
 use Rattle.coding.specs.Typed.{AllSamples}
 use Rattle.sample.specs.declared.Counting.{Counting}
 use Rattle.sample.specs.declared.State.{State}
 use Rattle.sample.specs.Activity.{counted, hung}
-use Rattle.sample.specs.Envelope.{smooth, size, rectified, threshold}
-use Rattle.sample.specs.Sample.{each, freshState, summed, counts, hangovers, stateAfterOne, stateAfter}
+use Rattle.sample.specs.Envelope.{smooth, size, rectified}
+use Rattle.sample.specs.Sample.{upTo, each, freshState, summed, counts, hangovers, stateAfterOne, stateAfter}
 use Rattle.sample.proofs.Activity.{Under, under-refl, under-step, counted-le, hung-le}
 use Rattle.sample.proofs.Envelope.{smooth-le}
-use Rattle.sample.proofs.Places.{each-at}
+use Rattle.thresholds.proofs.Places.{each-at, up-to-at, up-to-past, filled-at}
 use Rattle.sample.proofs.Signs.{small, size-small}
-use Rattle.sample.proofs.Thresholds.{thresholds-rise}
 use Rattle.signed.proofs.Sizes.{abs-sum}
 use Rattle.exact.specs.Exact.{E, startAt, distance, reaches, countNext, hangoverNext, takeOne, takeAll}
 use Rattle.rate.specs.Rates.{Ceiling}
@@ -67,45 +69,59 @@ total (x ∷ xs) e = omega (arith, total xs (takeOne e x))
 
 -- ---- the tie
 
--- counter j of the meter, against E
-pub record Between (D j n a h : ℕ) (e : E) : Type 0 where
-  pub low : Under (e .u (threshold j + D)) (e .v (threshold j + D)) a h
-  pub high : Under a h (e .u (threshold j)) (e .v (threshold j))
+-- the meter's counter at a threshold c, against E
+pub record Between (D c n a h : ℕ) (e : E) : Type 0 where
+  pub low : Under (e .u (c + D)) (e .v (c + D)) a h
+  pub high : Under a h (e .u c) (e .v (c))
   pub few : a ≤ n
   pub held : h ≤ e .I
 
-pub record Tied (D : ℕ) (m : State) (e : E) : Type 0 where
+pub record Tied (T : Thresholds) (D : ℕ) (m : State) (e : E) : Type 0 where
   pub taken : m .sums .n .0 ≡ e .y
   pub power : twoWords (m .sums .sq) ≡ e .sq
   pub p : Near (2 ^ 20) (e .K) 1 ((2 ^ 20) ^ (e .y)) (m .sums .p) (e .pn)
   pub q : Near (2 ^ 20) (e .K) 2 ((2 ^ 20) ^ (e .y + 1)) (m .sums .q) (e .qn)
-  pub each : (j : ℕ) → j < thresholds → Between D j (m .sums .n .0) (activity (m .a) j) (getD (m .h) j 0) e
-  pub falls : (j : ℕ) → j + 1 < thresholds → Under (activity (m .a) (j + 1)) (getD (m .h) (j + 1) 0) (activity (m .a) j) (getD (m .h) j 0)
+  pub each : (j : ℕ) → j < T .count → Between D (thresholdOf T j) (m .sums .n .0) (activity (m .a) j) (getD (m .h) j 0) e
+  pub falls : (j : ℕ) → j + 1 < T .count → Under (activity (m .a) (j + 1)) (getD (m .h) (j + 1) 0) (activity (m .a) j) (getD (m .h) j 0)
+  pub a-past : (j : ℕ) → j < places → T .count ≤ j → activity (m .a) j ≤ 0
+  pub h-past : (j : ℕ) → j < places → T .count ≤ j → getD (m .h) j 0 ≤ 0
   pub sum : natAbs (m .sums .s) ≤ m .sums .n .0 * 2 ^ 15
   pub squares : twoWords (m .sums .sq) ≤ m .sums .n .0 * 2 ^ 32
   pub p-max : m .sums .p ≤ 2 ^ 40
   pub q-max : m .sums .q ≤ 2 ^ 40
 
 -- the count and the hangover at threshold j after a sample that left the envelope at Q
-unfoldable pub countOf : (I Q : ℕ) → State → (j : ℕ) → ℕ
-countOf I Q m j = counted I (leb (threshold j) Q) (activity (m .a) j) (getD (m .h) j 0)
+unfoldable pub countOf : (T : Thresholds) (I Q : ℕ) → State → (j : ℕ) → ℕ
+countOf T I Q m j = counted I (leb (thresholdOf T j) Q) (activity (m .a) j) (getD (m .h) j 0)
 
-unfoldable pub hangOf : (I Q : ℕ) → State → (j : ℕ) → ℕ
-hangOf I Q m j = hung I (leb (threshold j) Q) (getD (m .h) j 0)
+unfoldable pub hangOf : (T : Thresholds) (I Q : ℕ) → State → (j : ℕ) → ℕ
+hangOf T I Q m j = hung I (leb (thresholdOf T j) Q) (getD (m .h) j 0)
 
 -- what stands at each place of the lists of counts and hangovers
-count-at : (f : ℕ → ℕ) (j : ℕ) → j < thresholds → activity (each thresholds (λ i. samplesOf (f i))) j ≡ f j
-count-at f j l = ap (λ (n : Samples). n .0) (each-at (samplesOf 0) thresholds (λ i. samplesOf (f i)) j l)
+abbrev countList : (k : ℕ) → (ℕ → ℕ) → List Samples
+countList k f = each places (λ i. samplesOf (upTo k f i))
 
-hang-at : (f : ℕ → ℕ) (j : ℕ) → j < thresholds → getD (each thresholds f) j 0 ≡ f j
-hang-at f j l = each-at 0 thresholds f j l
+abbrev hangList : (k : ℕ) → (ℕ → ℕ) → List ℕ
+hangList k f = each places (upTo k f)
 
-pub both-at : (f g f′ g′ : ℕ → ℕ) (i j : ℕ) → i < thresholds → j < thresholds → Under (f i) (g i) (f′ j) (g′ j)
-    → Under (activity (each thresholds (λ k. samplesOf (f k))) i) (getD (each thresholds g) i 0) (activity (each thresholds (λ k. samplesOf (f′ k))) j) (getD (each thresholds g′) j 0)
-both-at f g f′ g′ i j k l u =
+count-at : (k : ℕ) (f : ℕ → ℕ) (j : ℕ) → k ≤ places → j < k → activity (countList k f) j ≡ f j
+count-at k f j m l = ap (λ (n : Samples). n .0) (each-at (samplesOf 0) places (λ i. samplesOf (upTo k f i)) j (omega arith)) ∙ up-to-at k f j l
+
+hang-at : (k : ℕ) (f : ℕ → ℕ) (j : ℕ) → k ≤ places → j < k → getD (hangList k f) j 0 ≡ f j
+hang-at k f j m l = filled-at places k f j m l
+
+no-count : (k : ℕ) (f : ℕ → ℕ) (j : ℕ) → j < places → k ≤ j → activity (countList k f) j ≤ 0
+no-count k f j l g = le-of-eq (ap (λ (n : Samples). n .0) (each-at (samplesOf 0) places (λ i. samplesOf (upTo k f i)) j l) ∙ up-to-past k f j g)
+
+no-hangover : (k : ℕ) (f : ℕ → ℕ) (j : ℕ) → j < places → k ≤ j → getD (hangList k f) j 0 ≤ 0
+no-hangover k f j l g = le-of-eq (each-at 0 places (upTo k f) j l ∙ up-to-past k f j g)
+
+pub both-at : (k k′ : ℕ) (f g f′ g′ : ℕ → ℕ) (i j : ℕ) → k ≤ places → k′ ≤ places → i < k → j < k′ → Under (f i) (g i) (f′ j) (g′ j)
+    → Under (activity (countList k f) i) (getD (hangList k g) i 0) (activity (countList k′ f′) j) (getD (hangList k′ g′) j 0)
+both-at k k′ f g f′ g′ i j m m′ l l′ u =
     record {
-      count = omega (arith, count-at f i k, count-at f′ j l, u .count);
-      hang = omega (arith, hang-at g i k, hang-at g′ j l, u .hang);
+      count = omega (arith, count-at k f i m l, count-at k′ f′ j m′ l′, u .count);
+      hang = omega (arith, hang-at k g i m l, hang-at k′ g′ j m′ l′, u .hang);
     }
 
 more : (s n y : ℕ) → s ≤ n * 2 ^ 32 → y ≤ 2 ^ 16 * 2 ^ 16 → s + y ≤ (n + 1) * 2 ^ 32
@@ -117,7 +133,7 @@ power-pos i = one-le-pow i (2 ^ 20) (lit≤ tt)
 pub power-next : (i : ℕ) → (2 ^ 20) ^ i * 2 ^ 20 ≡ (2 ^ 20) ^ (i + 1)
 power-next i = sym (ap (λ (k : ℕ). (2 ^ 20) ^ k) (add-one i) ∙ pow-suc (2 ^ 20) i)
 
-module _ (D : ℕ) (m : State) (e : E) (x : ℤ) (k0 : 0 < e .K) (kG : e .K ≤ 2 ^ 20) (wide : 2 ^ 21 ≤ D * e .K) (sx : natAbs x ≤ 2 ^ 15) (so : size (e .o) x ≤ 2 ^ 16) (t : Tied D m e) where
+module _ (T : Thresholds) (R : Rising T) (D : ℕ) (m : State) (e : E) (x : ℤ) (k0 : 0 < e .K) (kG : e .K ≤ 2 ^ 20) (wide : 2 ^ 21 ≤ D * e .K) (sx : natAbs x ≤ 2 ^ 15) (so : size (e .o) x ≤ 2 ^ 16) (t : Tied T D m e) where
   -- the envelope after the sample, of the meter and of E
   P : ℕ
   P = smooth (e .K) (m .sums .p) (rectified (e .o) x)
@@ -148,34 +164,34 @@ module _ (D : ℕ) (m : State) (e : E) (x : ℤ) (k0 : 0 < e .K) (kG : e .K ≤ 
       (near-step (e .K) 1 W (m .sums .q) (e .qn) P pn k0 kG (power-pos (e .y + 1)) (t .q) (fed-near p-near))
 
   -- E is on at a threshold whenever the meter is, and the meter whenever E is on at the threshold raised by D
-  on-exact : (j : ℕ) → leb (threshold j) Q ≡ true → reaches (e .y + 1) qn (threshold j) ≡ true
+  on-exact : (j : ℕ) → leb (thresholdOf T j) Q ≡ true → reaches (e .y + 1) qn (thresholdOf T j) ≡ true
   unfolding reaches
-  on-exact j h = le-leb _ _ (then-exact (threshold j) q-near (leb-true _ _ h))
+  on-exact j h = le-leb _ _ (then-exact (thresholdOf T j) q-near (leb-true _ _ h))
 
-  on-rounded : (j : ℕ) → reaches (e .y + 1) qn (threshold j + D) ≡ true → leb (threshold j) Q ≡ true
+  on-rounded : (j : ℕ) → reaches (e .y + 1) qn (thresholdOf T j + D) ≡ true → leb (thresholdOf T j) Q ≡ true
   unfolding reaches
   on-rounded j h =
-      le-leb _ _ (then-rounded (2 ^ 20) (e .K) 2 ((2 ^ 20) ^ (e .y + 1 + 1)) Q qn D (threshold j) wide q-near (leb-true _ _ h))
+      le-leb _ _ (then-rounded (2 ^ 20) (e .K) 2 ((2 ^ 20) ^ (e .y + 1 + 1)) Q qn D (thresholdOf T j) wide q-near (leb-true _ _ h))
 
-  on-lower : (j : ℕ) → leb (threshold (j + 1)) Q ≡ true → leb (threshold j) Q ≡ true
-  on-lower j h = le-leb _ _ (le-trans (thresholds-rise j (j + 1) (omega arith)) (leb-true _ _ h))
+  on-lower : (j : ℕ) → j + 1 < T .count → leb (thresholdOf T (j + 1)) Q ≡ true → leb (thresholdOf T j) Q ≡ true
+  on-lower j l h = le-leb _ _ (le-trans (R .rises j (j + 1) (omega arith) l) (leb-true _ _ h))
 
-  counter : (j : ℕ) → j < thresholds → Between D j (m .sums .n .0 + 1) (countOf (e .I) Q m j) (hangOf (e .I) Q m j) (takeOne e x)
+  counter : (j : ℕ) → j < T .count → Between D (thresholdOf T j) (m .sums .n .0 + 1) (countOf T (e .I) Q m j) (hangOf T (e .I) Q m j) (takeOne e x)
   unfolding takeOne countNext hangoverNext counted hung countOf hangOf qn pn
   counter j l =
       let b = t .each j l in
       record {
-        low = under-step (e .I) _ _ _ _ (reaches (e .y + 1) qn (threshold j + D)) (leb (threshold j) Q) (on-rounded j) (b .low);
-        high = under-step (e .I) _ _ _ _ (leb (threshold j) Q) (reaches (e .y + 1) qn (threshold j)) (on-exact j) (b .high);
-        few = le-trans (counted-le (e .I) (leb (threshold j) Q) (activity (m .a) j) (getD (m .h) j 0)) (omega (arith, b .few));
-        held = hung-le (e .I) (leb (threshold j) Q) (getD (m .h) j 0) (b .held);
+        low = under-step (e .I) _ _ _ _ (reaches (e .y + 1) qn (thresholdOf T j + D)) (leb (thresholdOf T j) Q) (on-rounded j) (b .low);
+        high = under-step (e .I) _ _ _ _ (leb (thresholdOf T j) Q) (reaches (e .y + 1) qn (thresholdOf T j)) (on-exact j) (b .high);
+        few = le-trans (counted-le (e .I) (leb (thresholdOf T j) Q) (activity (m .a) j) (getD (m .h) j 0)) (omega (arith, b .few));
+        held = hung-le (e .I) (leb (thresholdOf T j) Q) (getD (m .h) j 0) (b .held);
       }
 
   P-max : P ≤ 2 ^ 40
   unfolding P rectified
   P-max = smooth-le (e .K) (2 ^ 40) (m .sums .p) (size (e .o) x * 2 ^ 24) kG (t .p-max) (omega (arith, so))
 
-  pub tied-step : Tied D (stateAfterOne (by e) m x) (takeOne e x)
+  pub tied-step : Tied T D (stateAfterOne (by e) T m x) (takeOne e x)
   unfolding stateAfterOne summed counts hangovers countOf hangOf takeOne P Q W pn qn size distance
   tied-step =
       record {
@@ -183,10 +199,12 @@ module _ (D : ℕ) (m : State) (e : E) (x : ℤ) (k0 : 0 < e .K) (kG : e .K ≤ 
         power = two-of-words (twoWords (m .sums .sq) + size (e .o) x * size (e .o) x) ∙ ap (λ (s : ℕ). s + size (e .o) x * size (e .o) x) (t .power);
         p = p-near;
         q = q-near;
-        each = λ j l. subst (λ (h : ℕ). Between D j (m .sums .n .0 + 1) (activity (each thresholds (λ i. samplesOf (countOf (e .I) Q m i))) j) h (takeOne e x)) (sym (hang-at (hangOf (e .I) Q m) j l))
-            (subst (λ (a : ℕ). Between D j (m .sums .n .0 + 1) a (hangOf (e .I) Q m j) (takeOne e x)) (sym (count-at (countOf (e .I) Q m) j l)) (counter j l));
-        falls = λ j l. both-at (countOf (e .I) Q m) (hangOf (e .I) Q m) (countOf (e .I) Q m) (hangOf (e .I) Q m) (j + 1) j l (omega arith)
-            (under-step (e .I) _ _ _ _ (leb (threshold (j + 1)) Q) (leb (threshold j) Q) (on-lower j) (t .falls j l));
+        each = λ j l. subst (λ (h : ℕ). Between D (thresholdOf T j) (m .sums .n .0 + 1) (activity (countList (T .count) (countOf T (e .I) Q m)) j) h (takeOne e x)) (sym (hang-at (T .count) (hangOf T (e .I) Q m) j (R .few) l))
+            (subst (λ (a : ℕ). Between D (thresholdOf T j) (m .sums .n .0 + 1) a (hangOf T (e .I) Q m j) (takeOne e x)) (sym (count-at (T .count) (countOf T (e .I) Q m) j (R .few) l)) (counter j l));
+        falls = λ j l. both-at (T .count) (T .count) (countOf T (e .I) Q m) (hangOf T (e .I) Q m) (countOf T (e .I) Q m) (hangOf T (e .I) Q m) (j + 1) j (R .few) (R .few) l (omega arith)
+            (under-step (e .I) _ _ _ _ (leb (thresholdOf T (j + 1)) Q) (leb (thresholdOf T j) Q) (on-lower j l) (t .falls j l));
+        a-past = λ j l g. no-count (T .count) (countOf T (e .I) Q m) j l g;
+        h-past = λ j l g. no-hangover (T .count) (hangOf T (e .I) Q m) j l g;
         sum = omega (arith, abs-sum (m .sums .s) x, t .sum, sx);
         squares = le-trans (le-of-eq (two-of-words _)) (more (twoWords (m .sums .sq)) (m .sums .n .0) (size (e .o) x * size (e .o) x) (t .squares) (mul-le-mul so so));
         p-max = P-max;
@@ -194,29 +212,48 @@ module _ (D : ℕ) (m : State) (e : E) (x : ℤ) (k0 : 0 < e .K) (kG : e .K ≤ 
       }
 
 -- samples in order
-pub tied-samples : (D : ℕ) (xs : List ℤ) (m : State) (e : E) → 0 < e .K → e .K ≤ 2 ^ 20 → 2 ^ 21 ≤ D * e .K → SFits w16 (e .o) → AllSamples xs → Tied D m e
-    → Tied D (stateAfter (by e) m xs) (takeAll e xs)
+pub tied-samples : (T : Thresholds) → Rising T → (D : ℕ) (xs : List ℤ) (m : State) (e : E) → 0 < e .K → e .K ≤ 2 ^ 20 → 2 ^ 21 ≤ D * e .K → SFits w16 (e .o) → AllSamples xs → Tied T D m e
+    → Tied T D (stateAfter (by e) T m xs) (takeAll e xs)
 unfolding stateAfter takeAll AllSamples takeOne
-tied-samples D [] m e k0 kG wide g f t = t
-tied-samples D (x ∷ xs) m e k0 kG wide g f t =
-    tied-samples D xs (stateAfterOne (by e) m x) (takeOne e x) k0 kG wide g (f .1) (tied-step D m e x k0 kG wide (small x (f .0)) (size-small (e .o) x g (f .0)) t)
+tied-samples T R D [] m e k0 kG wide g f t = t
+tied-samples T R D (x ∷ xs) m e k0 kG wide g f t =
+    tied-samples T R D xs (stateAfterOne (by e) T m x) (takeOne e x) k0 kG wide g (f .1) (tied-step T R D m e x k0 kG wide (small x (f .0)) (size-small (e .o) x g (f .0)) t)
+
+-- counts of a fresh start
+pub zeros-at : (j : ℕ) → j < places → activity (each places (λ i. samplesOf 0)) j ≡ 0
+zeros-at j l = ap (λ (n : Samples). n .0) (each-at (samplesOf 0) places (λ i. samplesOf 0) j l)
+
+pub fresh-under : (T T′ : Thresholds) → Rising T → Rising T′ → (I i j : ℕ) → i < T .count → j < T′ .count
+    → Under (activity (freshState (T .count) I .a) i) (getD (freshState (T .count) I .h) i 0) (activity (freshState (T′ .count) I .a) j) (getD (freshState (T′ .count) I .h) j 0)
+unfolding freshState
+fresh-under T T′ R R′ I i j l l′ =
+    let a0 = zeros-at i (omega (arith, R .few)) in
+    let a1 = zeros-at j (omega (arith, R′ .few)) in
+    let h0 = hang-at (T .count) (λ k. I) i (R .few) l in
+    let h1 = hang-at (T′ .count) (λ k. I) j (R′ .few) l′ in
+    record { count = omega (arith, a0, a1); hang = omega (arith, h0, h1) }
 
 -- a fresh start
-pub tied-fresh : (D code K I : ℕ) (o : ℤ) → Tied D (freshState I) (startAt code K I o)
+pub tied-fresh : (T : Thresholds) → Rising T → (D code K I : ℕ) (o : ℤ) → Tied T D (freshState (T .count) I) (startAt code K I o)
 unfolding freshState startAt
-tied-fresh D code K I o =
+tied-fresh T R D code K I o =
     record {
       taken = refl;
       power = two-of-words 0;
       p = near-zero (2 ^ 20) K 1 ((2 ^ 20) ^ 0) (lit< tt) (power-pos 0) (lit< tt);
       q = near-zero (2 ^ 20) K 2 ((2 ^ 20) ^ (0 + 1)) (lit< tt) (power-pos 1) (lit< tt);
-      each = λ j l. record {
-        low = omega (arith, count-at (λ i. 0) j l, hang-at (λ i. I) j l);
-        high = omega (arith, count-at (λ i. 0) j l, hang-at (λ i. I) j l);
-        few = omega (arith, count-at (λ i. 0) j l);
-        held = omega (arith, hang-at (λ i. I) j l);
-      };
-      falls = λ j l. both-at (λ i. 0) (λ i. I) (λ i. 0) (λ i. I) (j + 1) j l (omega arith) (under-refl 0 I);
+      each = λ j l.
+          let a0 = zeros-at j (omega (arith, R .few)) in
+          let h0 = hang-at (T .count) (λ i. I) j (R .few) l in
+          record { low = omega (arith, a0, h0); high = omega (arith, a0, h0); few = omega (arith, a0); held = omega (arith, h0) };
+      falls = λ j l.
+          let a0 = zeros-at j (omega (arith, R .few)) in
+          let a1 = zeros-at (j + 1) (omega (arith, R .few)) in
+          let h0 = hang-at (T .count) (λ i. I) j (R .few) (omega arith) in
+          let h1 = hang-at (T .count) (λ i. I) (j + 1) (R .few) l in
+          record { count = omega (arith, a0, a1); hang = omega (arith, h0, h1) };
+      a-past = λ j l g. omega (arith, zeros-at j l);
+      h-past = λ j l g. no-hangover (T .count) (λ i. I) j l g;
       sum = zero-le;
       squares = le-of-eq (two-of-words 0);
       p-max = zero-le;
@@ -225,12 +262,12 @@ tied-fresh D code K I o =
 
 -- ---- the envelope alone
 
-pub envelope-bound : (K I D : ℕ) (o : ℤ) (xs : List ℤ) → 1 ≤ K → K ≤ 2 ^ 20 → Ceiling (2 ^ 21) K D → SFits w16 o → AllSamples xs → EnvelopeBound K I D o xs
+pub envelope-bound : (T : Thresholds) → Rising T → (K I D : ℕ) (o : ℤ) (xs : List ℤ) → 1 ≤ K → K ≤ 2 ^ 20 → Ceiling (2 ^ 21) K D → SFits w16 o → AllSamples xs → EnvelopeBound T K I D o xs
 unfolding startAt
-envelope-bound K I D o xs k0 kG d g f =
+envelope-bound T R K I D o xs k0 kG d g f =
     let e = startAt 0 K I o in
-    let t = tied-samples D xs (freshState I) e k0 kG (d .not-below) g f (tied-fresh D 0 K I o) in
-    let Q = envelopeAfter K I o xs in
+    let t = tied-samples T R D xs (freshState (T .count) I) e k0 kG (d .not-below) g f (tied-fresh T R D 0 K I o) in
+    let Q = envelopeAfter T K I o xs in
     let qn = exactEnvelopeAfter K I o xs in
     let near = subst (λ (i : ℕ). Near (2 ^ 20) K 2 ((2 ^ 20) ^ (i + 1)) Q qn) (total xs e ∙ zero-add (length xs))
     (subst (λ (k : ℕ). Near (2 ^ 20) k 2 ((2 ^ 20) ^ (takeAll e xs .y + 1)) Q qn) (same-K xs e) (t .q)) in

@@ -6,19 +6,23 @@ use mathlib.Core.Logic.{_↔_}
 use mathlib.Core.Path.{_≡_}
 use Prim.Native.Nat.{ℕ, _+_, _*_, _^_, _≤_, _<_}
 use lib.IntN.{ℤ, pos, natAbs, _+ℤ_, _-ℤ_}
-use lib.ListN.{length}
+use lib.ListN.{length, getD}
 use lib.Signed.{ltZ, leZ}
 use mir.Syntax.{w16}
 use mir.Val.{SFits}
-use Rattle.level.specs.Types.{thresholds, mostSamples, activity, twoWords}
+use Rattle.level.specs.Types.{mostSamples, activity, twoWords}
+use Rattle.thresholds.specs.declared.Thresholds.{Thresholds}
+use Rattle.thresholds.specs.Lists.{places, builtIn, builtInCount, thresholdOf}
+use Rattle.crossing.specs.Exponents.{above, below}
+use Rattle.crossing.specs.Levels.{levelOfThreshold}
+use Rattle.rate.specs.Rates.{isNamed}
 use Rattle.refusal.specs.First.{Rule, NoneApplies, Given, Lowest}
 use Rattle.setting.specs.declared.Setting.{Setting}
-use Rattle.setting.specs.Settings.{iOf, dOf}
+use Rattle.setting.specs.Settings.{iOf, dOf, usualSetting}
 use Rattle.block.specs.Block.{rateCode, count, before, samplesIn}
 use Rattle.block.specs.Refusals.{sound, hostRules, hostCheck}
 use Rattle.coding.specs.Typed.{AllSamples, AllBytes}
 use Rattle.block.specs.Written.{writeRules, writeCall}
-use Rattle.sample.specs.Envelope.{threshold, workedOut}
 use Rattle.sample.specs.Sample.{freshState, stateAfter}
 use Rattle.meter.specs.declared.Meter.{Meter}
 use Rattle.meter.specs.declared.Report.{Report}
@@ -142,16 +146,23 @@ pub record Demand2 : Type 0 where
   -- the accepted ones' samples, in order, however they were cut into calls
   pub opened : (c : Setting) → Opens c → Fresh c (openCall c .meter)
   pub measured : (c : Setting) (calls : List Call) → Opens c
-      → meterAfter c calls ≡ record { setting = c; state = stateAfter (countingOf c) (freshState (iOf c)) (takenFrom c calls) }
+      → meterAfter c calls ≡ record { setting = c; state = stateAfter (countingOf c) (c .thresholds) (freshState (c .thresholds .count) (iOf c)) (takenFrom c calls) }
   -- and, as his request L2 has it, "With o = 0 every measurement from a fresh meter is today's"
   pub no-offset : NoOffset
-  -- and the margin, which his request L5 has "chosen at opening", is for reports alone: with one code and one offset, two settings that open take the
-  -- same calls and measure the same
-  pub any-margin : (c c′ : Setting) (calls : List Call) → TypedOffset c → Opens c → Opens c′ → Typed calls → c′ .code ≡ c .code → c′ .offset ≡ c .offset
+  -- and the margin, which his request L5 has "chosen at opening", is for reports alone: with one code, one offset and one list, two settings that open
+  -- take the same calls and measure the same
+  pub any-margin : (c c′ : Setting) (calls : List Call) → TypedOffset c → Opens c → Opens c′ → Typed calls → c′ .code ≡ c .code → c′ .offset ≡ c .offset → c′ .thresholds ≡ c .thresholds
       → SameMeasurement c c′ calls
-  -- and of the thresholds that these counts are of, as his request L3 has it, "that the j-th so worked out is c_j, for each j from 0 to 14". That the
-  -- code gets them so is the contracts of `Band::lowest` and `next_threshold` in `sample`; that "no table in the library shall list them" is tested
-  pub worked-out : (j : ℕ) → j < thresholds → workedOut j ≡ threshold j
+  -- and of the thresholds that these counts are of, where the list is the built-in one, as his request L3 has it, "that the j-th so worked out is c_j, for
+  -- each j from 0 to 14". That the code doubles them out is the contract of `Thresholds::built_in` in `thresholds`; that "no table in the library shall
+  -- list them" is tested
+  pub built-in : (j : ℕ) → j < builtInCount → thresholdOf builtIn j ≡ 2 ^ (j + 24)
+  -- the places past them are zero
+  pub built-in-past : (j : ℕ) → builtInCount ≤ j → thresholdOf builtIn j ≡ 0
+  -- of which C_j, as his request L8 has it, "becomes twice lev(c_j), less 196608": document 01's 8192·j
+  pub built-in-levels : (j : ℕ) → j < builtInCount → levelOfThreshold (thresholdOf builtIn j) ≡ pos (8192 * j)
+  -- and it loads: the usual setting of every code that names a rate opens
+  pub usual-opens : (code : ℕ) → isNamed code ≡ true → Opens (usualSetting code)
   -- "crossing, levels and factor": a report on any meter that 2 lets pass is the one of METHOD.md, in which, as his request L4 has it, "the highest
   -- crossing is used", by the meter's own margin, which the report carries with its mark; F is never above 0
   pub reported : (m : Meter) → impossible m ≡ false → Answered m (reportCall m .number) (reportCall m .report)
@@ -181,27 +192,36 @@ pub record Demand2 : Type 0 where
 
 -- ---- demand 3: "For every list of chunk calls and block calls, refused ones among them, from a fresh meter at any named rate"
 
--- the level clauses, of a report r: A is above 0, since it is not below the margin; A plus two steps is above E's exact level at the lower threshold,
--- and A less two steps below E's at the upper threshold raised by D
-pub record LevelBounds (r : Report) (e : E) (D : ℕ) : Type 0 where
-  pub A : ℕ
-  pub reported : r .levels .active .0 ≡ pos A
-  pub above-zero : 0 < A
-  pub plus-two : e .sq ^ 4096 < 2 ^ (A + 2) * countAt e (threshold (r .levels .lower)) ^ 4096
-  pub less-two : 2 ^ A * countAt e (threshold (r .levels .upper) + D) ^ 4096 < 4 * e .sq ^ 4096
+-- the level clauses, of a report r by thresholds t and a margin M: A is at least C of the lower threshold plus M; A plus two steps is above E's exact level
+-- at the lower threshold, and A less two steps below E's at the upper threshold raised by D. As his request L8 has it, "a power of two whose exponent is
+-- negative then goes to the other side"
+pub record LevelBounds (t : Thresholds) (M : ℤ) (r : Report) (e : E) (D : ℕ) : Type 0 where
+  pub at-least-margin : leZ (levelOfThreshold (thresholdOf t (r .levels .lower)) +ℤ M) (r .levels .active .0) ≡ true
+  pub plus-two : let A = r .levels .active .0 in e .sq ^ 4096 * 2 ^ below (A +ℤ pos 2) < 2 ^ above (A +ℤ pos 2) * countAt e (thresholdOf t (r .levels .lower)) ^ 4096
+  pub less-two : let A = r .levels .active .0 in 2 ^ above A * countAt e (thresholdOf t (r .levels .upper) + D) ^ 4096 < 4 * 2 ^ below A * e .sq ^ 4096
 
--- after a list of calls from a setting that opening accepts, at whatever margin and offset
+-- a place of a meter at which nothing stands
+pub record EmptyAt (m : Meter) (j : ℕ) : Type 0 where
+  pub threshold : thresholdOf (m .setting .thresholds) j ≡ 0
+  pub count : activity (m .state .a) j ≡ 0
+  pub hangover : getD (m .state .h) j 0 ≡ 0
+
+-- after a list of calls from a setting that opening accepts, with whatever offset, margin and thresholds
 pub record Demand3 (c : Setting) (calls : List Call) : Type 0 where
   -- "The meter accepts exactly the calls that E accepts", and so takes the samples that E takes; E adds up the squares of x − o over them
   pub same-calls : answersTo c calls ≡ answersOfE (exactAt c) calls
   pub same-samples : takenFrom c calls ≡ took (exactAt c) calls
   pub exact-squares : exactAfter c calls .sq ≡ sumOfSquares (c .offset) (took (exactAt c) calls)
   -- "Each activity count is at most E's count at that threshold, and at least E's count at the threshold raised by document 01's D"
-  pub at-most : (j : ℕ) → j < thresholds → activity (meterAfter c calls .state .a) j ≤ countAt (exactAfter c calls) (threshold j)
-  pub at-least : (j : ℕ) → j < thresholds → countAt (exactAfter c calls) (threshold j + dOf c) ≤ activity (meterAfter c calls .state .a) j
+  pub at-most : (j : ℕ) → j < c .thresholds .count → activity (meterAfter c calls .state .a) j ≤ countAt (exactAfter c calls) (thresholdOf (c .thresholds) j)
+  pub at-least : (j : ℕ) → j < c .thresholds .count → countAt (exactAfter c calls) (thresholdOf (c .thresholds) j + dOf c) ≤ activity (meterAfter c calls .state .a) j
   -- "No count rises with the threshold"
-  pub never-rises : (i j : ℕ) → i ≤ j → j < thresholds → activity (meterAfter c calls .state .a) j ≤ activity (meterAfter c calls .state .a) i
+  pub never-rises : (i j : ℕ) → i ≤ j → j < c .thresholds .count → activity (meterAfter c calls .state .a) j ≤ activity (meterAfter c calls .state .a) i
+  -- and, as his request L8 has it, "places past its end, among thresholds, a and h, are zero"
+  pub past-end : (j : ℕ) → c .thresholds .count ≤ j → j < places → EmptyAt (meterAfter c calls) j
   -- "A report on that meter is document 01's report, level or refusal"
   pub report : Answered (meterAfter c calls) (reportAfter c calls .number) (reportAfter c calls .report)
   -- "and where it gives levels", they keep to E's
-  pub levels : reportAfter c calls .number ≡ 0 → LevelBounds (reportAfter c calls .report) (exactAfter c calls) (dOf c)
+  pub levels : reportAfter c calls .number ≡ 0 → LevelBounds (c .thresholds) (c .margin .0) (reportAfter c calls .report) (exactAfter c calls) (dOf c)
+  -- with the built-in list no threshold's level is below 0, so A is above 0
+  pub above-zero : c .thresholds ≡ builtIn → reportAfter c calls .number ≡ 0 → ltZ (pos 0) (reportAfter c calls .report .levels .active .0) ≡ true

@@ -4,12 +4,13 @@ use mathlib.Core.List.{List, [], _∷_}
 use mathlib.Core.Path.{_≡_}
 use Prim.Native.Nat.{ℕ, _+_, _-_, _*_, _/_, _^_}
 use lib.IntN.{ℤ, pos, natAbs, _+ℤ_, _*ℤ_}
-use Rattle.level.specs.Types.{samplesOf, thresholds, twoWords, words}
+use Rattle.level.specs.Types.{samplesOf, twoWords, words}
+use Rattle.thresholds.specs.declared.Thresholds.{Thresholds}
+use Rattle.thresholds.specs.Lists.{thresholdOf}
 use Rattle.setting.specs.declared.Setting.{Setting}
 use Rattle.setting.specs.Settings.{kOf, iOf}
 use Rattle.sample.specs.declared.State.{State}
 use Rattle.sample.specs.declared.Sums.{Sums}
-use Rattle.sample.specs.Envelope.{threshold}
 use Rattle.sample.specs.Sample.{freshState, counts, hangovers}
 use Rattle.meter.specs.Calls.{fresh, afterSamples}
 
@@ -26,19 +27,19 @@ rawSums K m x =
     }
 
 -- and then the counts and hangovers
-unfoldable pub rawAfterOne : (K I : ℕ) → State → ℤ → State
-rawAfterOne K I m x =
+unfoldable pub rawAfterOne : (t : Thresholds) (K I : ℕ) → State → ℤ → State
+rawAfterOne t K I m x =
     let sums = rawSums K (m .sums) x in
     record {
       sums = sums;
-      a = counts threshold thresholds I (sums .q) (m .a) (m .h);
-      h = hangovers threshold thresholds I (sums .q) (m .h);
+      a = counts (thresholdOf t) (t .count) I (sums .q) (m .a) (m .h);
+      h = hangovers (thresholdOf t) (t .count) I (sums .q) (m .h);
     }
 
-unfoldable pub rawAfter : (K I : ℕ) → State → List ℤ → State
-rawAfter K I m [] = m
-rawAfter K I m (x ∷ xs) = rawAfter K I (rawAfterOne K I m x) xs
+unfoldable pub rawAfter : (t : Thresholds) (K I : ℕ) → State → List ℤ → State
+rawAfter t K I m [] = m
+rawAfter t K I m (x ∷ xs) = rawAfter t K I (rawAfterOne t K I m x) xs
 
 -- the law: with o = 0 a fresh meter's measurement of any samples is that
 abbrev pub NoOffset : Type 0
-NoOffset = (c : Setting) (xs : List ℤ) → c .offset ≡ pos 0 → afterSamples (fresh c) xs .state ≡ rawAfter (kOf c) (iOf c) (freshState (iOf c)) xs
+NoOffset = (c : Setting) (xs : List ℤ) → c .offset ≡ pos 0 → afterSamples (fresh c) xs .state ≡ rawAfter (c .thresholds) (kOf c) (iOf c) (freshState (c .thresholds .count) (iOf c)) xs

@@ -5,10 +5,11 @@ use mathlib.Core.Path.{_≡_}
 use Prim.Native.Nat.{ℕ, _+_, _*_, _^_, _≤_, _<_}
 use lib.IntN.{ℤ, pos}
 use lib.ListN.{getD, length}
-use Rattle.level.specs.Types.{thresholds, activity}
+use Rattle.level.specs.Types.{activity}
+use Rattle.thresholds.specs.Lists.{builtIn, builtInCount, thresholdOf}
 use Rattle.setting.specs.declared.Setting.{Setting}
 use Rattle.setting.specs.Settings.{dOf}
-use Rattle.sample.specs.Envelope.{interval, threshold}
+use Rattle.sample.specs.Envelope.{interval}
 use Rattle.exact.specs.Calls.{Call}
 use Rattle.exact.specs.Demands.{Opens, meterAfter, exactAfter, takenFrom, countAt}
 use Rattle.exact.specs.Exact.{distance}
@@ -39,9 +40,9 @@ pub record OneLine (d : ℕ) (c c′ : Setting) (calls calls′ : List Call) : T
 
 -- ---- their counts
 
--- c_j "raised by d intervals and D units"
+-- c_j of a setting, "raised by d intervals and D units"
 abbrev pub raised : (d : ℕ) → Setting → (j : ℕ) → ℕ
-raised d c j = threshold j + d * interval + dOf c
+raised d c j = thresholdOf (c .thresholds) j + d * interval + dOf c
 
 -- the "meter's own count at the plain threshold" c_j
 abbrev pub meterCount : Setting → List Call → (j : ℕ) → ℕ
@@ -50,15 +51,16 @@ meterCount c calls j = activity (meterAfter c calls .state .a) j
 -- the counts of the first card, with c and calls, against those of the second
 pub record Compared (d : ℕ) (c c′ : Setting) (calls calls′ : List Call) : Type 0 where
   -- "E's count for the first card at a threshold raised by d intervals and D units is never above the second meter's own count at the plain threshold"
-  pub never-above : (j : ℕ) → j < thresholds → countAt (exactAfter c calls) (raised d c j) ≤ meterCount c′ calls′ j
-  -- What a field engineer reads from it: the first meter's count exceeds the second's by at most E's own difference for the first card between the plain
-  -- threshold and the raised one, u(c_j) − u(c_j + d·2^24 + D). Here nothing is subtracted
-  pub exceeds-at-most : (j : ℕ) → j < thresholds
-      → meterCount c calls j + countAt (exactAfter c calls) (raised d c j) ≤ meterCount c′ calls′ j + countAt (exactAfter c calls) (threshold j)
-  -- And from the two meters alone, without E: where c_i is at least d intervals above c_j, the first's count at c_i is never above the second's at c_j
-  pub meters-alone : (i j : ℕ) → i < thresholds → j < thresholds → 2 ^ j + d ≤ 2 ^ i → meterCount c calls i ≤ meterCount c′ calls′ j
-  -- so at the next threshold, where 2^j is not below d
-  pub next-threshold : (j : ℕ) → j + 1 < thresholds → d ≤ 2 ^ j → meterCount c calls (j + 1) ≤ meterCount c′ calls′ j
+  pub never-above : (j : ℕ) → j < c′ .thresholds .count → countAt (exactAfter c calls) (raised d c′ j) ≤ meterCount c′ calls′ j
+  -- What a field engineer reads from it: at any threshold c_i of the first meter and c′_j of the second, the first meter's count exceeds the second's by at
+  -- most E's own difference for the first card between c_i and c′_j raised. Here nothing is subtracted
+  pub exceeds-at-most : (i j : ℕ) → i < c .thresholds .count → j < c′ .thresholds .count
+      → meterCount c calls i + countAt (exactAfter c calls) (raised d c′ j) ≤ meterCount c′ calls′ j + countAt (exactAfter c calls) (thresholdOf (c .thresholds) i)
+  -- And from the two meters alone, without E: where c_i is at least d intervals above c′_j, the first's count at c_i is never above the second's at c′_j
+  pub meters-alone : (i j : ℕ) → i < c .thresholds .count → j < c′ .thresholds .count → thresholdOf (c′ .thresholds) j + d * interval ≤ thresholdOf (c .thresholds) i
+      → meterCount c calls i ≤ meterCount c′ calls′ j
+  -- so with the built-in list in both, whose c_j is 2^j intervals, at the next threshold, where 2^j is not below d
+  pub next-threshold : c .thresholds ≡ builtIn → c′ .thresholds ≡ builtIn → (j : ℕ) → j + 1 < builtInCount → d ≤ 2 ^ j → meterCount c calls (j + 1) ≤ meterCount c′ calls′ j
 
 -- "and the same with the cards exchanged"
 pub record TwoCards (d : ℕ) (c c′ : Setting) (calls calls′ : List Call) : Type 0 where

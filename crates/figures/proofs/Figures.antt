@@ -10,13 +10,15 @@ use Rattle.block.specs.Block.{kind, rateCode, count, before, samplesIn, word, s
 use Rattle.block.specs.Refusals.{wrongLength, wrongCheck, wrongKind, wrongRate, wrongCount, zeros, usedUnused, blockRules, sound, hostRules, hostCheck}
 use Rattle.block.specs.Written.{contentsOf, blockOf, unwritable, writeRules, writeCall}
 use Rattle.sample.specs.Activity.{counted, hung}
-use Rattle.sample.specs.Envelope.{smooth, size, rectified, threshold}
-use Rattle.sample.specs.Sample.{listFrom, freshState, summed, counts, hangovers, stateAfterOne, stateAfter}
+use Rattle.sample.specs.Envelope.{smooth, size, rectified}
+use Rattle.thresholds.specs.Lists.{heldOf, noList, doubled, builtIn, wrongLength as wrongListLength, wrongEntry, wrongEnd, listRules, unloadable}
+use Rattle.thresholds.specs.Places.{listFrom, upTo, someBelow, someFrom}
+use Rattle.sample.specs.Sample.{freshState, summed, counts, hangovers, stateAfterOne, stateAfter}
 use Rattle.crossing.specs.Levels.{longTerm, activeAt, levelOfThreshold, excess}
 use Rattle.crossing.specs.Crossing.{isCrossing, highestBelow, crossing, lowerOf, activeLevel}
 use Rattle.crossing.specs.Searched.{levelsAt, noLevels, crossingIn, firstExcess}
 use Rattle.percent.specs.Percent.{notAbove}
-use Rattle.possible.specs.Impossible.{anyOf, someBelow, manySamples, largeSum, largeSquares, largeP, largeQ, impossibleSums, longHangover, largeCount, risingCount, fallingHangover, impossibleCounter}
+use Rattle.possible.specs.Impossible.{anyOf, manySamples, largeSum, largeSquares, largeP, largeQ, impossibleSums, longHangover, largeCount, risingCount, fallingHangover, impossibleCounter, filledCounter}
 use Rattle.meter.specs.Refusals.{unnamedCode, impossible, longChunk, wrongPlace, tooMany, openRules, chunkRules, blockCallRules}
 use Rattle.meter.specs.Reports.{crossingOf, firstOfMeter, noSamples, noSignal, noActivity, levelBelow, levelAbove, reportRules, noReport, reportWith, reportAt, reportFor}
 use Rattle.setting.specs.Settings.{kOf, iOf, dOf, wrongMargin}
@@ -26,10 +28,10 @@ use Rattle.exact.specs.Exact.{startAt, start, distance, reaches, countNext, han
 use Rattle.exact.specs.Lists.{called, accepted, after, taken}
 use Rattle.figures.specs.Blocks.{pairs, blockWith, soundBlock, fullBlock, endBlock, twenty, lastBlock, lastFull, exampleBytes, plainBytes, threeBytes, otherSum, highSum, otherWeighted, otherKind, otherCode, noCount, highCount, usedNext, usedLast}
 use Rattle.figures.specs.Meters.{given}
-use Rattle.figures.specs.Rows.{sampledMeter, meterFrom, exactFrom, numbersOf, shownBy, valuesOf, All}
-use Rattle.figures.specs.Table.{run, mirrored, faults, table}
+use Rattle.figures.specs.Rows.{sampledMeter, meterFrom, exactFrom, numbersOf, shownBy, valuesOf, inPlaces, All}
+use Rattle.figures.specs.Table.{softly, run, mirrored, faults, table}
 use Rattle.figures.proofs.Rows.{sameShown, alike, testOf, test, allTrue, sound-table}
 
 pub figures : All table
-unfolding placeUpTo place startOf bit next spell lev levelOf rateOf isNamed rowOf firstOf numberAt kind rateCode count before signed samplesAt samplesIn word sumBelow checkSum weightedSum wrongLength wrongCheck wrongKind wrongRate wrongCount zeros usedUnused blockRules sound hostRules hostCheck bytesOf wordOf bytesOfSamples contentsOf blockOf unwritable writeRules writeCall counted hung smooth size rectified threshold listFrom words freshState kOf iOf dOf fresh zeroMeter countingOf afterSamples summed counts hangovers stateAfterOne stateAfter longTerm activeAt levelOfThreshold excess isCrossing highestBelow crossing lowerOf activeLevel notAbove anyOf someBelow unnamedCode wrongMargin manySamples largeSum largeSquares largeP largeQ impossibleSums longHangover largeCount risingCount fallingHangover impossibleCounter impossible longChunk wrongPlace tooMany openRules chunkRules blockCallRules levelsAt noLevels crossingIn firstExcess crossingOf firstOfMeter noSamples noSignal noActivity levelBelow levelAbove reportRules noReport reportWith reportAt reportFor openCall chunkCall blockCall reportCall startAt start distance reaches countNext hangoverNext takeOne takeAll accepts broughtBy fed exactly called accepted after taken given sampledMeter meterFrom exactFrom numbersOf shownBy valuesOf pairs blockWith soundBlock fullBlock endBlock twenty lastBlock lastFull exampleBytes plainBytes threeBytes otherSum highSum otherWeighted otherKind otherCode noCount highCount usedNext usedLast run mirrored faults table sameShown alike testOf test allTrue
+unfolding placeUpTo place startOf bit next spell lev levelOf rateOf isNamed rowOf firstOf numberAt kind rateCode count before signed samplesAt samplesIn word sumBelow checkSum weightedSum wrongLength wrongCheck wrongKind wrongRate wrongCount zeros usedUnused blockRules sound hostRules hostCheck bytesOf wordOf bytesOfSamples contentsOf blockOf unwritable writeRules writeCall counted hung smooth size rectified heldOf noList doubled builtIn wrongListLength wrongEntry wrongEnd listRules unloadable listFrom upTo words freshState kOf iOf dOf fresh zeroMeter countingOf afterSamples summed counts hangovers stateAfterOne stateAfter longTerm activeAt levelOfThreshold excess isCrossing highestBelow crossing lowerOf activeLevel notAbove anyOf someBelow someFrom unnamedCode wrongMargin manySamples largeSum largeSquares largeP largeQ impossibleSums longHangover largeCount risingCount fallingHangover impossibleCounter filledCounter impossible longChunk wrongPlace tooMany openRules chunkRules blockCallRules levelsAt noLevels crossingIn firstExcess crossingOf firstOfMeter noSamples noSignal noActivity levelBelow levelAbove reportRules noReport reportWith reportAt reportFor openCall chunkCall blockCall reportCall startAt start distance reaches countNext hangoverNext takeOne takeAll accepts broughtBy fed exactly called accepted after taken given sampledMeter meterFrom exactFrom numbersOf shownBy valuesOf inPlaces pairs blockWith soundBlock fullBlock endBlock twenty lastBlock lastFull exampleBytes plainBytes threeBytes otherSum highSum otherWeighted otherKind otherCode noCount highCount usedNext usedLast softly run mirrored faults table sameShown alike testOf test allTrue
 figures = sound-table table refl

@@ -15,7 +15,7 @@ use Rattle.block.specs.Refusals.{hostCheck}
 use Rattle.block.specs.Written.{writeCall}
 use Rattle.percent.specs.Percent.{whole, notAbove, percentOf}
 use Rattle.percent.proofs.Laws.{percent-at, percent-only}
-use Rattle.sample.specs.Envelope.{threshold}
+use Rattle.thresholds.specs.Lists.{thresholdOf}
 use Rattle.setting.specs.declared.Setting.{Setting}
 use Rattle.meter.specs.declared.Meter.{Meter}
 use Rattle.meter.specs.Calls.{openCall, chunkCall, reportCall}
@@ -25,8 +25,8 @@ use Rattle.exact.specs.Demands.{takenFrom, countAt}
 use Rattle.exact.specs.Envelope.{envelopeAfter, exactEnvelopeAfter}
 use Rattle.exact.specs.Exact.{distance}
 use Rattle.exact.specs.TwoCards.{DifferAtMost, sizeAt, Alike, OneLine, raised, meterCount}
-use Rattle.figures.specs.Meters.{countsOf}
-use Rattle.figures.specs.Rows.{Shown, nothing, Values, Row, level, noLevel, percent, sampled, reported, refused, opened, handedIn, answered, checked, made, played, counted, needsTwo, cards, needsD, sampledMeter, meterFrom, exactFrom, numbersOf, shownBy, valuesOf, Holds, All}
+use Rattle.figures.specs.Meters.{padded, countsOf}
+use Rattle.figures.specs.Rows.{Shown, nothing, Values, Row, level, noLevel, percent, sampled, reported, refused, opened, handedIn, answered, checked, made, played, counted, needsTwo, cards, needsD, sampledMeter, meterFrom, exactFrom, numbersOf, shownBy, valuesOf, inPlaces, Holds, All}
 use Rattle.figures.proofs.Tests.{Test, via, _and_, always, never, is, isNot, unless, atMost, itself, _on_, Equality, sameNumber, sameInteger, sameAnswer, sameList, sameOption}
 
 -- the percentage of a factor, by its law: two logarithms beside lev(10000)
@@ -61,8 +61,8 @@ sameShown m y samePercentage =
     on sameInteger (x .M) (y .M)
     on sameAnswer (x .mark) (y .mark)
 
-abbrev values : (code : ℕ) (offset margin : ℤ) (n : ℕ) (s : ℤ) (high low P Q : ℕ) (a h : List ℕ) → Values
-values code offset margin n s high low P Q a h = record { code = code; offset = offset; margin = margin; n = n; s = s; high = high; low = low; P = P; Q = Q; a = a; h = h }
+abbrev values : (code : ℕ) (offset margin : ℤ) (count : ℕ) (c : List ℕ) (n : ℕ) (s : ℤ) (high low P Q : ℕ) (a h : List ℕ) → Values
+values code offset margin count c n s high low P Q a h = record { code = code; offset = offset; margin = margin; count = count; c = c; n = n; s = s; high = high; low = low; P = P; Q = Q; a = a; h = h }
 
 abbrev pub sameValues : Equality Values
 sameValues x y =
@@ -70,6 +70,8 @@ sameValues x y =
     on sameNumber (x .code) (y .code)
     on sameInteger (x .offset) (y .offset)
     on sameInteger (x .margin) (y .margin)
+    on sameNumber (x .count) (y .count)
+    on sameList sameNumber (x .c) (y .c)
     on sameNumber (x .n) (y .n)
     on sameInteger (x .s) (y .s)
     on sameNumber (x .high) (y .high)
@@ -115,7 +117,7 @@ testOf (sampled c xs P Q a number) =
     via (λ h. (h .0, h .1 .0, h .1 .1 .0, h .1 .1 .1))
     (sameNumber (m .state .sums .p) P
     and sameNumber (m .state .sums .q) Q
-    and sameList sameNumber (countsOf m) a
+    and sameList sameNumber (countsOf m) (padded a)
     and sameNumber (reportCall m .number) number)
 testOf (reported m r) = sameNumber (reportCall m .number) 0 and sameShown m r (reportedPercentage m (r .T))
 testOf (refused m number) =
@@ -127,23 +129,23 @@ testOf (checked bytes code number) = sameNumber (hostCheck bytes code) number
 testOf (made code before xs buffer number after) =
     let w = writeCall code before xs buffer in
     sameNumber (w .number) number and sameList sameNumber (w .buffer) after
-testOf (played c calls v) = sameValues (valuesOf (meterFrom c calls)) v
+testOf (played c calls v) = sameValues (valuesOf (meterFrom c calls)) (inPlaces v)
 testOf (counted s calls c u) = sameNumber (countAt (exactFrom s calls) c) u
 testOf (needsTwo c calls A) =
     let r = reportCall (meterFrom c calls) .report in
     let e = exactFrom c calls in
     sameInteger (r .levels .active .0) (pos A)
-    and atMost (2 ^ (A + 1) * countAt e (threshold (r .levels .lower)) ^ 4096) (e .sq ^ 4096)
+    and atMost (2 ^ (A + 1) * countAt e (thresholdOf (c .thresholds) (r .levels .lower)) ^ 4096) (e .sq ^ 4096)
 testOf (cards d c c′ calls calls′ j t u a) =
     via (λ h. (h .0, h .1 .0, h .1 .1 .0, h .1 .1 .1))
     (oneLine d c c′ calls calls′
-    and sameNumber (raised d c j) t
+    and sameNumber (raised d c′ j) t
     and sameNumber (countAt (exactFrom c calls) t) u
     and sameNumber (meterCount c′ calls′ j) a)
 testOf (needsD c xs Q) =
     let r = rowOf (c .code) in
     let o = c .offset in
-    sameNumber (envelopeAfter (r .k) (r .i) o xs) Q
+    sameNumber (envelopeAfter (c .thresholds) (r .k) (r .i) o xs) Q
     and atMost ((Q + (r .d - 1)) * (2 ^ 20) ^ (length xs + 1)) (exactEnvelopeAfter (r .k) (r .i) o xs)
 
 unfoldable pub test : Row → Bool

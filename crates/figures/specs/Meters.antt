@@ -1,10 +1,12 @@
 -- The meters that rows hand in.
-use mathlib.Core.List.{List, map}
-use Prim.Native.Nat.{ℕ}
+use mathlib.Core.List.{List, [], map, _++_}
+use Prim.Native.Nat.{ℕ, _-_}
 use lib.IntN.{ℤ, pos}
-use lib.ListN.{replicate}
+use lib.ListN.{length, replicate}
 use Rattle.level.specs.declared.Samples.{Samples}
-use Rattle.level.specs.Types.{samplesOf, stepsOf, thresholds, words}
+use Rattle.level.specs.Types.{samplesOf, stepsOf, words}
+use Rattle.thresholds.specs.declared.Thresholds.{Thresholds}
+use Rattle.thresholds.specs.Lists.{places, heldOf}
 use Rattle.sample.specs.declared.State.{State}
 use Rattle.sample.specs.declared.Sums.{Sums}
 use Rattle.meter.specs.declared.Meter.{Meter}
@@ -12,40 +14,60 @@ use Rattle.setting.specs.declared.Setting.{Setting}
 use Rattle.setting.specs.Settings.{usualSetting}
 use Rattle.meter.specs.Calls.{fresh}
 
--- the usual setting of a code, with another offset, and with another margin; and the fresh meter of a code
+-- numbers, and zeros in the places past them
+abbrev pub padded : List ℕ → List ℕ
+padded l = l ++ replicate (places - length l) 0
+
+-- a list of another length than it says, by its places
+abbrev pub placed : (count : ℕ) → List ℕ → Thresholds
+placed count l = record { count = count; at = padded l }
+
+-- the usual setting of a code, with another offset, with another margin, and with other thresholds; and the fresh meter of a code
 abbrev pub offsetBy : (code : ℕ) (o : ℤ) → Setting
-offsetBy code o = record { code = code; offset = o; margin = usualSetting code .margin }
+offsetBy code o = record { code = code; offset = o; margin = usualSetting code .margin; thresholds = usualSetting code .thresholds }
 
 abbrev pub marginBy : (code : ℕ) (M : ℤ) → Setting
-marginBy code M = record { code = code; offset = usualSetting code .offset; margin = stepsOf M }
+marginBy code M = record { code = code; offset = usualSetting code .offset; margin = stepsOf M; thresholds = usualSetting code .thresholds }
+
+abbrev pub placedBy : (code : ℕ) (t : Thresholds) → Setting
+placedBy code t = record { code = code; offset = usualSetting code .offset; margin = usualSetting code .margin; thresholds = t }
+
+abbrev pub listBy : (code : ℕ) (l : List ℕ) → Setting
+listBy code l = placedBy code (heldOf l)
 
 abbrev pub freshAt : ℕ → Meter
 freshAt code = fresh (usualSetting code)
 
--- a meter with n, sq and a, at code 2 and the usual margin, all else zero
+-- a meter with n, sq and a, at code 2 and with the usual margin and thresholds, all else zero
 unfoldable pub given : (n sq : ℕ) → List ℕ → Meter
 given n sq a =
     record {
       setting = usualSetting 2;
-      state = record { sums = record { n = samplesOf n; s = pos 0; sq = words sq; p = 0; q = 0 }; a = map samplesOf a; h = replicate thresholds 0 };
+      state = record { sums = record { n = samplesOf n; s = pos 0; sq = words sq; p = 0; q = 0 }; a = map samplesOf (padded a); h = padded [] };
     }
 
 -- one with n 1000, sq and every a_j being zero too: refusal 2 lets it pass
 abbrev pub plain : Meter
-plain = given 1000 0 (replicate thresholds 0)
+plain = given 1000 0 []
 
 -- a meter with one of its fields another
 abbrev withSetting : Setting → Meter → Meter
 withSetting c m = record { setting = c; state = m .state }
 
 abbrev pub withCode : ℕ → Meter → Meter
-withCode code m = withSetting (record { code = code; offset = m .setting .offset; margin = m .setting .margin }) m
+withCode code m = let c = m .setting in withSetting (record { code = code; offset = c .offset; margin = c .margin; thresholds = c .thresholds }) m
 
 abbrev pub withOffset : ℤ → Meter → Meter
-withOffset o m = withSetting (record { code = m .setting .code; offset = o; margin = m .setting .margin }) m
+withOffset o m = let c = m .setting in withSetting (record { code = c .code; offset = o; margin = c .margin; thresholds = c .thresholds }) m
 
 abbrev pub withMargin : ℤ → Meter → Meter
-withMargin M m = withSetting (record { code = m .setting .code; offset = m .setting .offset; margin = stepsOf M }) m
+withMargin M m = let c = m .setting in withSetting (record { code = c .code; offset = c .offset; margin = stepsOf M; thresholds = c .thresholds }) m
+
+abbrev pub withThresholds : Thresholds → Meter → Meter
+withThresholds t m = let c = m .setting in withSetting (record { code = c .code; offset = c .offset; margin = c .margin; thresholds = t }) m
+
+abbrev pub withList : List ℕ → Meter → Meter
+withList l m = withThresholds (heldOf l) m
 
 abbrev withState : State → Meter → Meter
 withState x m = record { setting = m .setting; state = x }
@@ -70,10 +92,10 @@ abbrev pub withQ : ℕ → Meter → Meter
 withQ x m = let v = m .state .sums in withSums (record { n = v .n; s = v .s; sq = v .sq; p = v .p; q = x }) m
 
 abbrev pub withA : List ℕ → Meter → Meter
-withA x m = withState (record { sums = m .state .sums; a = map samplesOf x; h = m .state .h }) m
+withA x m = withState (record { sums = m .state .sums; a = map samplesOf (padded x); h = m .state .h }) m
 
 abbrev pub withH : List ℕ → Meter → Meter
-withH x m = withState (record { sums = m .state .sums; a = m .state .a; h = x }) m
+withH x m = withState (record { sums = m .state .sums; a = m .state .a; h = padded x }) m
 
 -- the activity counts of a meter, as numbers
 abbrev pub countsOf : Meter → List ℕ

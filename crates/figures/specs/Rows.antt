@@ -11,7 +11,7 @@ use Rattle.rate.specs.Rates.{rowOf}
 use Rattle.block.specs.Refusals.{hostCheck}
 use Rattle.block.specs.Written.{writeCall}
 use Rattle.percent.specs.Percent.{percentOf}
-use Rattle.sample.specs.Envelope.{threshold}
+use Rattle.thresholds.specs.Lists.{thresholdOf}
 use Rattle.setting.specs.declared.Setting.{Setting}
 use Rattle.meter.specs.declared.Meter.{Meter}
 use Rattle.meter.specs.declared.Report.{Report}
@@ -22,7 +22,7 @@ use Rattle.exact.specs.Envelope.{envelopeAfter, exactEnvelopeAfter}
 use Rattle.exact.specs.Exact.{E}
 use Rattle.exact.specs.Lists.{called}
 use Rattle.exact.specs.TwoCards.{OneLine, raised, meterCount}
-use Rattle.figures.specs.Meters.{countsOf}
+use Rattle.figures.specs.Meters.{padded, countsOf}
 
 -- the levels of a report, its thresholds, its percentage, and the margin with its mark
 pub record Shown : Type 0 where
@@ -40,11 +40,13 @@ pub record Shown : Type 0 where
 abbrev pub nothing : Shown
 nothing = record { L = pos 0; A = pos 0; C = pos 0; F = pos 0; lower = 0; upper = 0; T = 0; M = pos 0; mark = false }
 
--- the values of a meter
+-- the values of a meter; in a row its thresholds, a and h are written without the zeros in the places past them
 pub record Values : Type 0 where
   pub code : ℕ
   pub offset : ℤ
   pub margin : ℤ
+  pub count : ℕ
+  pub c : List ℕ
   pub n : ℕ
   pub s : ℤ
   pub high : ℕ
@@ -61,7 +63,7 @@ pub data Row : Type 0 where
   noLevel : (N : ℕ) → Row
   -- the percentage of a factor F is T
   percent : (F : ℤ) (T : ℕ) → Row
-  -- a fresh meter after samples has P, Q and activity counts a, and its report is answered with number
+  -- a fresh meter after samples has P, Q and activity counts a, with zeros in the places past them, and its report is answered with number
   sampled : Setting → (xs : List ℤ) (P Q : ℕ) (a : List ℕ) (number : ℕ) → Row
   -- a meter handed in gets a report that shows this
   reported : Meter → Shown → Row
@@ -83,8 +85,8 @@ pub data Row : Type 0 where
   counted : Setting → List Call → (c u : ℕ) → Row
   -- calls after an opening, after which A is reported and one step more than A does not exceed E's exact level at the lower threshold
   needsTwo : Setting → List Call → (A : ℕ) → Row
-  -- two cards on one line, at most d apart in size, c and calls being the first's: c_j raised is t, E's count for the first card there is u, and the second
-  -- meter's count at c_j is a
+  -- two cards on one line, at most d apart in size, c and calls being the first's: the second's c_j raised is t, E's count for the first card there is u, and
+  -- the second meter's count at c_j is a
   cards : (d : ℕ) (c c′ : Setting) (calls calls′ : List Call) (j t u a : ℕ) → Row
   -- samples from a fresh start, after which the envelope is Q, and E's q is not below Q + (D − 1)
   needsD : Setting → (xs : List ℤ) (Q : ℕ) → Row
@@ -124,6 +126,8 @@ valuesOf m =
       code = m .setting .code;
       offset = m .setting .offset;
       margin = m .setting .margin .0;
+      count = m .setting .thresholds .count;
+      c = m .setting .thresholds .at;
       n = m .state .sums .n .0;
       s = m .state .sums .s;
       high = m .state .sums .sq .high;
@@ -134,13 +138,32 @@ valuesOf m =
       h = m .state .h;
     }
 
+-- with those zeros
+unfoldable pub inPlaces : Values → Values
+inPlaces v =
+    record {
+      code = v .code;
+      offset = v .offset;
+      margin = v .margin;
+      count = v .count;
+      c = padded (v .c);
+      n = v .n;
+      s = v .s;
+      high = v .high;
+      low = v .low;
+      P = v .P;
+      Q = v .Q;
+      a = padded (v .a);
+      h = padded (v .h);
+    }
+
 unfoldable pub Holds : Row → Type 0
 Holds (level N v) = levelOf N ≡ some (pos v)
 Holds (noLevel N) = levelOf N ≡ none
 Holds (percent F T) = percentOf F ≡ T
 Holds (sampled c xs P Q a number) =
     let m = sampledMeter c xs in
-    (m .state .sums .p ≡ P) × (m .state .sums .q ≡ Q) × (countsOf m ≡ a) × (reportCall m .number ≡ number)
+    (m .state .sums .p ≡ P) × (m .state .sums .q ≡ Q) × (countsOf m ≡ padded a) × (reportCall m .number ≡ number)
 Holds (reported m r) = (reportCall m .number ≡ 0) × (shownBy (reportCall m .report) ≡ r)
 Holds (refused m number) = (reportCall m .number ≡ number) × (shownBy (reportCall m .report) ≡ nothing)
 Holds (opened c number) = openCall c .number ≡ number
@@ -150,18 +173,18 @@ Holds (checked bytes code number) = hostCheck bytes code ≡ number
 Holds (made code before xs buffer number after) =
     let w = writeCall code before xs buffer in
     (w .number ≡ number) × (w .buffer ≡ after)
-Holds (played c calls v) = valuesOf (meterFrom c calls) ≡ v
+Holds (played c calls v) = valuesOf (meterFrom c calls) ≡ inPlaces v
 Holds (counted s calls c u) = countAt (exactFrom s calls) c ≡ u
 Holds (needsTwo c calls A) =
     let r = reportCall (meterFrom c calls) .report in
     let e = exactFrom c calls in
-    (r .levels .active .0 ≡ pos A) × (2 ^ (A + 1) * countAt e (threshold (r .levels .lower)) ^ 4096 ≤ e .sq ^ 4096)
+    (r .levels .active .0 ≡ pos A) × (2 ^ (A + 1) * countAt e (thresholdOf (c .thresholds) (r .levels .lower)) ^ 4096 ≤ e .sq ^ 4096)
 Holds (cards d c c′ calls calls′ j t u a) =
-    OneLine d c c′ calls calls′ × (raised d c j ≡ t) × (countAt (exactFrom c calls) t ≡ u) × (meterCount c′ calls′ j ≡ a)
+    OneLine d c c′ calls calls′ × (raised d c′ j ≡ t) × (countAt (exactFrom c calls) t ≡ u) × (meterCount c′ calls′ j ≡ a)
 Holds (needsD c xs Q) =
     let r = rowOf (c .code) in
     let o = c .offset in
-    (envelopeAfter (r .k) (r .i) o xs ≡ Q) × ((Q + (r .d - 1)) * (2 ^ 20) ^ (length xs + 1) ≤ exactEnvelopeAfter (r .k) (r .i) o xs)
+    (envelopeAfter (c .thresholds) (r .k) (r .i) o xs ≡ Q) × ((Q + (r .d - 1)) * (2 ^ 20) ^ (length xs + 1) ≤ exactEnvelopeAfter (r .k) (r .i) o xs)
 
 -- every row of a table holds
 unfoldable pub All : List Row → Type 0

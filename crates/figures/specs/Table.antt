@@ -1,23 +1,77 @@
 -- The worked figures: METHOD.md, "Worked figures". The customer's come first; then our own, for what those do not tell apart.
 use mathlib.Core.Bool.{true, false}
 use mathlib.Core.List.{List, [], _∷_, _++_}
-use Prim.Native.Nat.{ℕ, _+_, _-_, _*_, _^_}
+use Prim.Native.Nat.{ℕ, zero, suc, _+_, _-_, _*_, _^_}
 use lib.IntN.{ℤ, pos, negsuc}
 use lib.ListN.{replicate}
 use Rattle.level.specs.Types.{stepsOf}
-use Rattle.sample.specs.Envelope.{threshold}
+use Rattle.thresholds.specs.Places.{listFrom}
+use Rattle.thresholds.specs.Lists.{builtIn, heldOf}
 use Rattle.setting.specs.declared.Setting.{Setting}
 use Rattle.setting.specs.Settings.{usualSetting}
 use Rattle.meter.specs.declared.Meter.{Meter}
 use Rattle.meter.specs.Calls.{openCall}
 use Rattle.exact.specs.Calls.{Call, chunk, block}
 use Rattle.figures.specs.Blocks.{samplesOfThree, soundBlock, fullBlock, endBlock, twenty, lastBlock, lastFull, exampleBytes, plainBytes, lent, threeBytes, otherSum, highSum, otherWeighted, otherKind, otherCode, noCount, highCount, usedNext, usedLast}
-use Rattle.figures.specs.Meters.{offsetBy, marginBy, freshAt, given, plain, withCode, withOffset, withMargin, withN, withS, withSq, withP, withQ, withA, withH}
-use Rattle.figures.specs.Rows.{Values, Row, level, noLevel, percent, sampled, reported, refused, opened, handedIn, answered, checked, made, played, counted, needsTwo, cards, needsD}
+use Rattle.figures.specs.Meters.{placed, offsetBy, marginBy, placedBy, listBy, freshAt, given, plain, withCode, withOffset, withMargin, withThresholds, withList, withN, withS, withSq, withP, withQ, withA, withH}
+use Rattle.figures.specs.Rows.{Values, Row, level, noLevel, percent, sampled, reported, refused, opened, handedIn, answered, checked, made, played, counted, needsTwo, cards, needsD, sampledMeter}
 
--- x for the first k of fifteen, 0 for the others
+-- x for the first k, 0 for the others
 abbrev first : (k x : ℕ) → List ℕ
-first k x = replicate k x ++ replicate (15 - k) 0
+first k x = replicate k x
+
+-- document 01's thresholds
+abbrev threshold : (j : ℕ) → ℕ
+threshold j = 2 ^ (j + 24)
+
+abbrev powers : List ℕ
+powers = listFrom threshold 0 15
+
+-- powers of two, k of them from 2^e on
+abbrev from : (e k : ℕ) → List ℕ
+from e k = listFrom (λ j. 2 ^ (e + j)) 0 k
+
+-- the shortest list, and one of 24, finer below 16 intervals: halfway between two powers stands another
+abbrev shortest : List ℕ
+shortest = from 24 14
+
+abbrev finer : List ℕ
+finer =
+    2 ^ 22
+    ∷ 3 * 2 ^ 21
+    ∷ 2 ^ 23
+    ∷ 3 * 2 ^ 22
+    ∷ 2 ^ 24
+    ∷ 3 * 2 ^ 23
+    ∷ 2 ^ 25
+    ∷ 3 * 2 ^ 24
+    ∷ 2 ^ 26
+    ∷ 3 * 2 ^ 25
+    ∷ 2 ^ 27
+    ∷ 3 * 2 ^ 26
+    ∷ from 28 12
+
+-- a list whose second entry is its first once more; one whose last is one more than twice the one before; and one of words whose doubles are none
+abbrev twice : List ℕ
+twice = 2 ^ 24 ∷ shortest
+
+abbrev wide : List ℕ
+wide = from 24 13 ++ ((2 ^ 37 + 1) ∷ [])
+
+abbrev wrapping : List ℕ
+wrapping = 2 ^ 62 ∷ listFrom (λ j. 2 ^ 63 + j) 0 13
+
+-- 240 samples of quiet speech at code 1: a louder part, a pause and a softer part
+unfoldable pub softly : List ℤ
+softly = sixes 20 ++ replicate 60 (pos 0) ++ pairsOf 30
+  where
+    sixes : ℕ → List ℤ
+    sixes zero = []
+    sixes (suc k) = pos 3 ∷ negsuc 3 ∷ pos 5 ∷ negsuc 2 ∷ pos 4 ∷ negsuc 5 ∷ sixes k
+
+    pairsOf : ℕ → List ℤ
+    pairsOf zero = []
+    pairsOf (suc k) = pos 2 ∷ negsuc 2 ∷ pairsOf k
 
 -- −x, for x above 0
 abbrev minus : ℕ → ℤ
@@ -32,7 +86,7 @@ quiet = given 32768 (2 ^ 20) (first 1 32768)
 
 -- the meter of all zeros
 abbrev zeros : Values
-zeros = record { code = 0; offset = pos 0; margin = pos 0; n = 0; s = pos 0; high = 0; low = 0; P = 0; Q = 0; a = first 0 0; h = first 0 0 }
+zeros = record { code = 0; offset = pos 0; margin = pos 0; count = 0; c = []; n = 0; s = pos 0; high = 0; low = 0; P = 0; Q = 0; a = first 0 0; h = first 0 0 }
 
 -- 260 samples at code 1: loud ones, a refused block of three bytes, a sound one of twenty samples, and near silence in which hangovers run out
 unfoldable pub run : List Call
@@ -50,6 +104,8 @@ ran M =
       code = 1;
       offset = pos 0;
       margin = M;
+      count = 15;
+      c = powers;
       n = 260;
       s = minus 576360;
       high = 0;
@@ -68,9 +124,12 @@ mirrored =
     ∷ chunk (replicate 170 (pos 603) ++ replicate 30 (pos 297))
     ∷ []
 
--- the setting of that card, with the least margin
+-- the setting of that card, with the least margin, and with the finer list too
 abbrev otherCard : Setting
-otherCard = record { code = 1; offset = pos 300; margin = stepsOf (pos 1) }
+otherCard = record { code = 1; offset = pos 300; margin = stepsOf (pos 1); thresholds = builtIn }
+
+abbrev finerCard : Setting
+finerCard = record { code = 1; offset = pos 300; margin = stepsOf (pos 1); thresholds = heldOf finer }
 
 -- three samples after which Q is one unit under c_6, and q is not
 abbrev justUnder : List Call
@@ -117,6 +176,8 @@ table =
       code = 2;
       offset = pos 32767;
       margin = pos 21635;
+      count = 15;
+      c = powers;
       n = 1;
       s = minus 32768;
       high = 0;
@@ -130,6 +191,8 @@ table =
       code = 2;
       offset = minus 1;
       margin = pos 21635;
+      count = 15;
+      c = powers;
       n = 1;
       s = minus 1;
       high = 0;
@@ -167,6 +230,8 @@ table =
       code = 3;
       offset = minus 32768;
       margin = pos 21635;
+      count = 15;
+      c = powers;
       n = 1;
       s = pos 32767;
       high = 0;
@@ -204,11 +269,62 @@ table =
     ∷ opened (marginBy 1 (pos (2 ^ 63 - 1))) 17
     ∷ opened (marginBy 4 (pos 0)) 1
     ∷ opened (marginBy 4 (pos 22315)) 1
-    -- an opening keeps its margin
+    -- the list: its shortest and a longest, and 19 at a length of 0, 13, 25 and any larger, whatever the entries are, and where something stands past the end
+    ∷ opened (listBy 1 shortest) 0
+    ∷ opened (listBy 1 finer) 0
+    ∷ opened (listBy 1 []) 19
+    ∷ opened (listBy 1 (from 25 13)) 19
+    ∷ opened (listBy 1 (finer ++ ((2 ^ 39 + 1) ∷ []))) 19
+    ∷ opened (placedBy 1 (placed 65534 powers)) 19
+    ∷ opened (placedBy 1 (placed (2 ^ 64 - 1) powers)) 19
+    ∷ opened (placedBy 1 (placed 13 twice)) 19
+    ∷ opened (placedBy 1 (placed 14 powers)) 19
+    ∷ opened (placedBy 1 (placed 15 (powers ++ replicate 8 0 ++ (1 ∷ [])))) 19
+    -- 20: an entry once more, the first pair and the last; a lower one; one more than twice the one before, the first and the last; zeros within the list
+    ∷ opened (listBy 1 twice) 20
+    ∷ opened (listBy 1 (shortest ++ (2 ^ 37 ∷ []))) 20
+    ∷ opened (listBy 1 (from 24 8 ++ from 30 8)) 20
+    ∷ opened (listBy 1 wide) 20
+    ∷ opened (listBy 1 (2 ^ 24 ∷ (2 ^ 25 + 1) ∷ from 26 12)) 20
+    ∷ opened (listBy 1 (powers ++ replicate 9 0)) 20
+    ∷ opened (listBy 1 (replicate 14 0)) 20
+    -- 21: each end of the range of the first and of the last, and the next number past it; doubling does not wrap
+    ∷ opened (listBy 1 (from 22 16)) 0
+    ∷ opened (listBy 1 (from 24 16)) 0
+    ∷ opened (listBy 1 ((2 ^ 22 - 1) ∷ from 22 16)) 21
+    ∷ opened (listBy 1 ((2 ^ 24 + 1) ∷ from 25 13)) 21
+    ∷ opened (listBy 1 (from 24 13 ++ ((2 ^ 37 - 1) ∷ []))) 21
+    ∷ opened (listBy 1 (from 24 16 ++ ((2 ^ 39 + 1) ∷ []))) 21
+    ∷ opened (listBy 1 wrapping) 21
+    -- the order: 1 before 17 before 19 before 20 before 21
+    ∷ opened (record { code = 4; offset = pos 0; margin = stepsOf (pos 0); thresholds = heldOf [] }) 1
+    ∷ opened (record { code = 1; offset = pos 0; margin = stepsOf (pos 0); thresholds = heldOf [] }) 17
+    ∷ opened (listBy 1 (2 ^ 62 ∷ 2 ^ 62 ∷ from 24 11)) 19
+    ∷ opened (listBy 1 (2 ^ 62 ∷ 2 ^ 62 ∷ from 24 12)) 20
+    -- a refused list is kept as little
+    ∷ played (listBy 1 wide) [] zeros
+    -- an opening keeps its list, and its margin
+    ∷ played (listBy 3 shortest) [] (record {
+      code = 3;
+      offset = pos 0;
+      margin = pos 21635;
+      count = 14;
+      c = shortest;
+      n = 0;
+      s = pos 0;
+      high = 0;
+      low = 0;
+      P = 0;
+      Q = 0;
+      a = [];
+      h = replicate 14 3200;
+    })
     ∷ played (marginBy 3 (pos 1)) [] (record {
       code = 3;
       offset = pos 0;
       margin = pos 1;
+      count = 15;
+      c = powers;
       n = 0;
       s = pos 0;
       high = 0;
@@ -235,6 +351,19 @@ table =
     ∷ handedIn (withMargin (minus 1) plain) 2
     ∷ handedIn (withMargin (minus (2 ^ 63)) plain) 2
     ∷ handedIn (withMargin (pos (2 ^ 63 - 1)) plain) 2
+    -- a list that would not load, for each rule
+    ∷ handedIn (withList shortest plain) 0
+    ∷ handedIn (withList finer plain) 0
+    ∷ handedIn (withList [] plain) 2
+    ∷ handedIn (withList (from 25 13) plain) 2
+    ∷ handedIn (withThresholds (placed 25 finer) plain) 2
+    ∷ handedIn (withThresholds (placed (2 ^ 64 - 1) powers) plain) 2
+    ∷ handedIn (withThresholds (placed 14 powers) plain) 2
+    ∷ handedIn (withList twice plain) 2
+    ∷ handedIn (withList wide plain) 2
+    ∷ handedIn (withList ((2 ^ 22 - 1) ∷ from 22 16) plain) 2
+    ∷ handedIn (withList (from 24 16 ++ ((2 ^ 39 + 1) ∷ [])) plain) 2
+    ∷ handedIn (withList wrapping plain) 2
     -- n > 2^48
     ∷ handedIn (withN (2 ^ 48) plain) 0
     ∷ handedIn (withN (2 ^ 48 + 1) plain) 2
@@ -281,6 +410,20 @@ table =
     -- h_j falling with j: at the first pair, and at the last
     ∷ handedIn (withH (6 ∷ replicate 14 5) plain) 2
     ∷ handedIn (withH (replicate 14 6 ++ (5 ∷ [])) plain) 2
+    -- past the end of the list: an a_j or an h_j that is not zero, the first such place and the last; within it neighbours are compared to its end
+    ∷ handedIn (withA (replicate 15 5 ++ (1 ∷ [])) plain) 2
+    ∷ handedIn (withA (replicate 23 0 ++ (1 ∷ [])) plain) 2
+    ∷ handedIn (withH (replicate 15 5 ++ (5 ∷ [])) plain) 2
+    ∷ handedIn (withH (replicate 23 0 ++ (1 ∷ [])) plain) 2
+    ∷ handedIn (withList shortest (withA (replicate 14 5) plain)) 0
+    ∷ handedIn (withList shortest (withA (replicate 15 5) plain)) 2
+    ∷ handedIn (withList shortest (withH (replicate 14 1600) plain)) 0
+    ∷ handedIn (withList shortest (withH (replicate 15 1600) plain)) 2
+    ∷ handedIn (withList finer (withA (replicate 24 5) plain)) 0
+    ∷ handedIn (withList finer (withA (replicate 23 5 ++ (6 ∷ [])) plain)) 2
+    ∷ handedIn (withList finer (withH (replicate 24 1600) plain)) 0
+    ∷ handedIn (withList finer (withH (replicate 23 6 ++ (5 ∷ [])) plain)) 2
+    ∷ handedIn (withList finer (withH (replicate 23 1600 ++ (1601 ∷ [])) plain)) 2
     -- the refusals of calls
     ∷ answered (freshAt 1) faults (3 ∷ 4 ∷ 5 ∷ 5 ∷ 5 ∷ 6 ∷ 7 ∷ 8 ∷ 8 ∷ 9 ∷ 9 ∷ 10 ∷ 0 ∷ 10 ∷ 0 ∷ [])
     ∷ answered (withCode 0 plain) (chunk (replicate 4097 (pos 0)) ∷ block threeBytes ∷ []) (2 ∷ 2 ∷ [])
@@ -339,6 +482,16 @@ table =
     -- the interpolation rounds down, at two margins
     ∷ reported (withMargin (pos 20955) (given 16384 (2 ^ 30) (replicate 7 4096 ++ (3000 ∷ replicate 7 0)))) (record { L = pos 65536; A = pos 74777; C = pos 53822; F = minus 9241; lower = 6; upper = 7; T = 2093; M = pos 20955; mark = false })
     ∷ reported (given 16384 (2 ^ 30) (replicate 7 4096 ++ (3000 ∷ replicate 7 0))) (record { L = pos 65536; A = pos 74580; C = pos 52945; F = minus 9044; lower = 6; upper = 7; T = 2164; M = pos 21635; mark = false })
+    -- levels below 0, which thresholds under one interval allow: −1, −2, the least that there can be, and one between two thresholds
+    ∷ reported (withMargin (pos 16383) (withList finer (given 4097 4096 (first 1 4097)))) (record { L = minus 1; A = minus 1; C = minus 16384; F = pos 0; lower = 0; upper = 0; T = 10000; M = pos 16383; mark = true })
+    ∷ reported (withMargin (pos 16382) (withList finer (given 4098 4096 (first 1 4098)))) (record { L = minus 2; A = minus 2; C = minus 16384; F = pos 0; lower = 0; upper = 0; T = 10000; M = pos 16382; mark = true })
+    ∷ reported (withMargin (pos 1) (withList finer (given 65536 4097 (first 1 65536)))) (record { L = minus 16383; A = minus 16383; C = minus 16384; F = pos 0; lower = 0; upper = 0; T = 10000; M = pos 1; mark = true })
+    ∷ reported (withMargin (pos 1) (withList finer (given 65536 4096 (50000 ∷ 40000 ∷ [])))) (record { L = minus 16384; A = minus 14179; C = minus 14180; F = minus 2205; lower = 0; upper = 1; T = 6886; M = pos 1; mark = true })
+    -- quiet speech, which has no level by the built-in thresholds, and one by the finer; and its level by both at another margin
+    ∷ refused (sampledMeter (usualSetting 1) softly) 15
+    ∷ reported (sampledMeter (listBy 1 finer) softly) (record { L = pos 14102; A = pos 14420; C = minus 7215; F = minus 318; lower = 2; upper = 3; T = 9476; M = pos 21635; mark = false })
+    ∷ reported (sampledMeter (marginBy 1 (pos 5000)) softly) (record { L = pos 14102; A = pos 15751; C = pos 10751; F = minus 1649; lower = 1; upper = 2; T = 7565; M = pos 5000; mark = true })
+    ∷ reported (withMargin (pos 5000) (sampledMeter (listBy 1 finer) softly)) (record { L = pos 14102; A = pos 15216; C = pos 10216; F = minus 1114; lower = 6; upper = 7; T = 8282; M = pos 5000; mark = true })
     -- the meter and E over a run of calls
     ∷ played (usualSetting 1) run (ran (pos 21635))
     ∷ counted (usualSetting 1) run (threshold 6) 258
@@ -349,11 +502,29 @@ table =
     -- and at another margin, which changes nothing but itself
     ∷ played (marginBy 1 (pos 1)) run (ran (pos 1))
     ∷ counted (marginBy 1 (pos 1)) run (threshold 13) 197
+    -- and by the finer list
+    ∷ played (listBy 1 finer) run (record {
+      code = 1;
+      offset = pos 0;
+      margin = pos 21635;
+      count = 24;
+      c = finer;
+      n = 260;
+      s = minus 576360;
+      high = 0;
+      low = 27907536480;
+      P = 3869760806;
+      Q = 2445109210;
+      a = replicate 13 260 ++ (259 ∷ 258 ∷ 257 ∷ 256 ∷ 253 ∷ 249 ∷ 242 ∷ 229 ∷ 197 ∷ 146 ∷ 0 ∷ []);
+      h = replicate 16 0 ++ (65 ∷ 82 ∷ 99 ∷ 117 ∷ 136 ∷ 139 ∷ 139 ∷ 139 ∷ []);
+    })
     -- and at an offset, over the same calls
     ∷ played (offsetBy 1 (pos 300)) run (record {
       code = 1;
       offset = pos 300;
       margin = pos 21635;
+      count = 15;
+      c = powers;
       n = 260;
       s = minus 576360;
       high = 0;
@@ -372,6 +543,8 @@ table =
     ∷ needsD (usualSetting 1) (replicate 500 (pos 1) ++ (pos 31417 ∷ [])) 1175933558
     -- two cards on one line, cut differently, of which the first has a refused call, and the second another margin
     ∷ cards 3 (offsetBy 1 (pos 300)) otherCard run mirrored 12 (4099 * 2 ^ 24 + 43) 228 229
+    -- and where the second has other thresholds than the first, of which 2^36 has another place
+    ∷ cards 3 (offsetBy 1 (pos 300)) finerCard run mirrored 20 (4099 * 2 ^ 24 + 43) 228 229
     -- 400 apart at code 2, where the first has the largest size there is
     ∷ cards 400 (offsetBy 2 (minus 32768)) (offsetBy 2 (minus 32768)) (constant (pos 32767) 40) (constant (pos 32367) 40) 8 (656 * 2 ^ 24 + 481) 5 19
     -- d − 1 intervals would not do: at c_0 raised by D alone E counts 6 for the first, and the second meter counts 0

@@ -1,3 +1,4 @@
+pub mod Exact
 pub mod Powers
 mod Squarings
 pub mod Laws

@@ -7,6 +7,7 @@ use Rattle.level.specs.declared.Hundredths.{Hundredths}
 use Rattle.level.specs.declared.Samples.{Samples}
 use Rattle.level.specs.declared.Squares.{Squares}
 use Rattle.level.specs.declared.Steps.{Steps}
+use Rattle.level.specs.declared.Units.{Units}
 
 -- a number as a count of samples, as hundredths of a percent, and as a level or a difference of two
 abbrev pub samplesOf : ℕ → Samples
@@ -15,12 +16,11 @@ samplesOf n = record { 0 = n }
 abbrev pub hundredthsOf : ℕ → Hundredths
 hundredthsOf n = record { 0 = n }
 
+abbrev pub unitsOf : ℕ → Units
+unitsOf n = record { 0 = n }
+
 abbrev pub stepsOf : ℤ → Steps
 stepsOf x = record { 0 = x }
-
--- how many thresholds there are
-abbrev pub thresholds : ℕ
-thresholds = 15
 
 -- the most samples that a measurement may hold
 abbrev pub mostSamples : ℕ

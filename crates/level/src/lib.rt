@@ -7,10 +7,7 @@ ghost use mathlib.Core.Path.{_≡_};
 ghost use Prim.Native.Nat.{_+_, _*_, _^_, _≤_, _<_};
 ghost use lib.Dec.{ltb};
 ghost use Rattle.level.specs.Logarithm.{placeUpTo, spell, lev, levelOf, valueOf, stepsIn};
-ghost use Rattle.level.specs.Types.{samplesOf, hundredthsOf, stepsOf, twoWords};
-
-// How many thresholds there are.
-pub const THRESHOLDS: usize = 15;
+ghost use Rattle.level.specs.Types.{samplesOf, hundredthsOf, unitsOf, stepsOf, twoWords};
 
 // The most samples that a measurement may hold.
 pub const MOST_SAMPLES: u64 = 1 << 48;
@@ -23,6 +20,9 @@ pub struct Samples(u64);
 
 // A part of the whole, in hundredths of a percent.
 pub struct Hundredths(u64);
+
+// A level of the envelope, in units of 2^-24 quantizing interval.
+pub struct Units(u64);
 
 // A sum of squares, in two words.
 pub struct Squares {
@@ -105,6 +105,21 @@ impl Hundredths {
         ensures { λ r. ⌜ r ≡ self .0 ⌝ }
     {
         self.0
+    }
+
+    // The level of their number.
+    pub fn level(self) -> Level
+        ensures { λ r. ⌜ valueOf r ≡ levelOf (self .0) ⌝ }
+    {
+        word_level(self.0)
+    }
+}
+
+impl Units {
+    pub fn of(n: u64) -> Units
+        ensures { λ r. ⌜ r ≡ unitsOf n ⌝ }
+    {
+        Units(n)
     }
 
     // The level of their number.

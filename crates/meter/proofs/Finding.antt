@@ -12,7 +12,7 @@ use Rattle.crossing.specs.Searched.{Searched, noLevels, said, searched, levelsF
 use Rattle.meter.specs.declared.Meter.{Meter}
 use Rattle.meter.specs.Calls.{HandedReport, reportCall}
 use Rattle.meter.specs.Inner.{refusedReport, reportedWith}
-use Rattle.meter.specs.Reports.{marginOf, crossingOf, firstOfMeter}
+use Rattle.meter.specs.Reports.{marginOf, listOf, crossingOf, firstOfMeter}
 use Rattle.meter.proofs.Outcome.{Tested, at-15, at-16, at-0}
 
 -- what is handed back for it
@@ -20,7 +20,7 @@ abbrev pub handedFor : Searched → Meter → HandedReport
 handedFor s m = cond (eqb (s .number) 0) (reportedWith (s .levels) m) (refusedReport (s .number) m)
 
 module _ (m : Meter) (t : Tested m) where
-  by-crossing : (o : Option ℕ) → crossingOf m ≡ o → handedFor (levelsFor (marginOf m) (m .state .sums .n .0) (twoWords (m .state .sums .sq)) (m .state .a) o) m ≡ reportCall m
+  by-crossing : (o : Option ℕ) → crossingOf m ≡ o → handedFor (levelsFor (marginOf m) (m .state .sums .n .0) (twoWords (m .state .sums .sq)) (listOf m) (m .state .a) o) m ≡ reportCall m
   unfolding levelsFor firstOfMeter
   by-crossing none e = go (ltZ (firstOfMeter m) (pos 0)) refl
     where
@@ -29,6 +29,6 @@ module _ (m : Meter) (t : Tested m) where
       go false p = at-16 m t e p
   by-crossing (some j) e = at-0 m t j e
 
-  pub by-found : (f : Found) → said f ≡ searched (marginOf m) (m .state .sums .n .0) (twoWords (m .state .sums .sq)) (m .state .a) → handedFor (said f) m ≡ reportCall m
+  pub by-found : (f : Found) → said f ≡ searched (marginOf m) (m .state .sums .n .0) (twoWords (m .state .sums .sq)) (listOf m) (m .state .a) → handedFor (said f) m ≡ reportCall m
   unfolding searched crossingOf
   by-found f s = ap (λ (x : Searched). handedFor x m) s ∙ by-crossing (crossingOf m) refl

@@ -12,14 +12,16 @@ use lib.Dec.{eqb, ltb, lit≤}
 use lib.IntN.{ℤ, pos, _-ℤ_}
 use lib.Signed.{ltZ, leZ}
 use Rattle.level.specs.Logarithm.{lev, levelOf}
-use Rattle.level.specs.Types.{thresholds, mostSamples, activity, twoWords, words}
+use Rattle.level.specs.Types.{mostSamples, activity, twoWords, words}
 use Rattle.level.proofs.Laws.{level-exists}
 use Rattle.rate.proofs.Laws.{zero-unnamed}
+use Rattle.thresholds.specs.Lists.{listRules}
 use Rattle.refusal.specs.First.{firstOf, NoneApplies, rising, Given, Lowest}
 use Rattle.refusal.proofs.Laws.{here, past, none, given-lowest}
 use Rattle.block.specs.Block.{samplesIn}
 use Rattle.block.specs.Refusals.{blockRules}
 use Rattle.sample.specs.Sample.{listFrom, freshState, stateAfter}
+use Rattle.thresholds.specs.Lists.{noList}
 use Rattle.crossing.proofs.Bounds.{Crossed, crossed, factor}
 use Rattle.percent.specs.Percent.{IsPercent}
 use Rattle.percent.proofs.Laws.{never-smaller}
@@ -31,14 +33,14 @@ use Rattle.meter.specs.Answered.{powerOf, CrossingAt, Used, ReportAt, Al
 use Rattle.meter.specs.Calls.{fresh, zeroMeter, afterSamples, openCall, chunkCall, blockCall, reportCall}
 use Rattle.meter.specs.Opened.{Fresh, Zeros}
 use Rattle.meter.specs.Refusals.{unnamedCode, impossible, longChunk, tooMany, openRules, chunkRules, blockCallRules}
-use Rattle.meter.specs.Reports.{marginOf, reportRules}
+use Rattle.meter.specs.Reports.{marginOf, listOf, reportRules}
 use Rattle.meter.proofs.Outcome.{zero-report, answered}
 use Rattle.meter.proofs.Possible.{Possible, possible, falling}
 
 -- ---- the number given is that of the first rule that applies, which is the lowest
 
 pub open-given : (c : Setting) → Given (openRules c) (openCall c .number) × Lowest (openRules c) (openCall c .number)
-unfolding openCall openRules rising
+unfolding openCall openRules listRules rising
 open-given c = given-lowest (openRules c) refl
 
 pub chunk-given : (m : Meter) (xs : List ℤ) → Given (chunkRules m xs) (chunkCall m xs .number) × Lowest (chunkRules m xs) (chunkCall m xs .number)
@@ -89,7 +91,7 @@ unfolding fresh freshState words listFrom
 fresh-fields c = record { setting = refl; n = refl; s = refl; high = refl; low = refl; P = refl; Q = refl; a = refl; h = refl }
 
 zero-fields : Zeros zeroMeter
-unfolding zeroMeter freshState words listFrom
+unfolding zeroMeter freshState words listFrom noList
 zero-fields = record { setting = refl; n = refl; s = refl; high = refl; low = refl; P = refl; Q = refl; a = refl; h = refl }
 
 pub refused-open : (c : Setting) → 0 < openCall c .number → Zeros (openCall c .meter)
@@ -187,7 +189,7 @@ some-measured (levels r j n s u a) e = (n, s)
 pub record LevelsExist (m : Meter) : Type 0 where
   pub of-sq : levelOf (twoWords (m .state .sums .sq)) ≡ some (pos (lev (twoWords (m .state .sums .sq))))
   pub of-n : levelOf (m .state .sums .n .0) ≡ some (pos (lev (m .state .sums .n .0)))
-  pub of-a : (j : ℕ) → j < thresholds → 0 < activity (m .state .a) j → levelOf (activity (m .state .a) j) ≡ some (pos (lev (activity (m .state .a) j)))
+  pub of-a : (j : ℕ) → j < listOf m .count → 0 < activity (m .state .a) j → levelOf (activity (m .state .a) j) ≡ some (pos (lev (activity (m .state .a) j)))
 
 -- so a report with levels, and one refused with 15 or 16, never meets "no level"
 pub levels-exist : (m : Meter) → impossible m ≡ false → (reportCall m .number ≡ 0) ⊎ (15 ≤ reportCall m .number) → LevelsExist m
@@ -201,9 +203,9 @@ levels-exist m ok e =
     }
 
 -- what is known of a crossing of a possible meter
-pub crossing-of : (m : Meter) → Possible m → (j : ℕ) → CrossingAt m j → Crossed (marginOf m) (powerOf m) (m .state .a) j
+pub crossing-of : (m : Meter) → Possible m → (j : ℕ) → CrossingAt m j → Crossed (marginOf m) (powerOf m) (listOf m) (m .state .a) j
 crossing-of m p j c =
-    crossed (marginOf m) (powerOf m) (m .state .a) j (c .crosses)
+    crossed (marginOf m) (powerOf m) (listOf m) (m .state .a) j (c .crosses)
     (λ h. falling m p (j - 1) j (omega arith) (c .place))
     (omega (arith, p .a-max (j - 1) (omega (arith, c .place)), p .n-max))
 
@@ -230,5 +232,5 @@ factor-never-above m z =
     let c = crossing-of m p (L .j) (L .used .crossing) in
     ap (ltZ (pos 0)) (L .report .F)
     ∙ ap₂ (λ (y x : ℤ). ltZ (pos 0) (y -ℤ x)) (L .report .L) (L .report .A)
-    ∙ factor (marginOf m) (powerOf m) (m .state .sums .n .0) (m .state .a) (L .j) c
+    ∙ factor (marginOf m) (powerOf m) (m .state .sums .n .0) (listOf m) (m .state .a) (L .j) c
     (p .a-max (c .i) (omega (arith, c .reach, L .used .crossing .place))) (omega (arith, p .n-max))

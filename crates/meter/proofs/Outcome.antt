@@ -12,10 +12,13 @@ use lib.Dec.{T, eqb}
 use lib.IntN.{ℤ, pos, negsuc}
 use lib.Signed.{ltZ}
 use Rattle.level.specs.declared.Samples.{Samples}
-use Rattle.level.specs.Types.{thresholds, activity, twoWords, words}
+use Rattle.thresholds.specs.declared.Thresholds.{Thresholds}
+use Rattle.level.specs.Types.{activity, twoWords, words}
 use Rattle.refusal.specs.First.{firstOf}
 use Rattle.refusal.proofs.Laws.{here, past, none as no-rule}
 use Rattle.sample.specs.Sample.{listFrom}
+use Rattle.thresholds.proofs.Laws.{loaded}
+use Rattle.meter.proofs.Possible.{possible}
 use Rattle.crossing.specs.Levels.{excess}
 use Rattle.crossing.specs.Crossing.{isZero, isCrossing, crossing}
 use Rattle.crossing.specs.Searched.{levelsAt, noLevels, crossingIn, firstExcess}
@@ -26,7 +29,7 @@ use Rattle.meter.specs.Answered.{powerOf, CrossingAt, Used, ReportAt, Al
 use Rattle.meter.specs.Calls.{HandedReport, reportCall}
 use Rattle.meter.specs.Inner.{refusedReport, reportedWith}
 use Rattle.meter.specs.Refusals.{impossible}
-use Rattle.meter.specs.Reports.{marginOf, isNone, crossingOf, firstOfMeter, noSamples, noSignal, noActivity, levelBelow, levelAbove, reportRules, noReport, reportWith, reportAt, reportFor}
+use Rattle.meter.specs.Reports.{marginOf, listOf, isNone, crossingOf, firstOfMeter, noSamples, noSignal, noActivity, levelBelow, levelAbove, reportRules, noReport, reportWith, reportAt, reportFor}
 
 -- a refused report
 pub no-report : (k : ℕ) (m : Meter) → 0 < k → k ≡ firstOf (reportRules m) → refusedReport k m ≡ reportCall m
@@ -41,20 +44,20 @@ signs (pos zero) p q = refl
 signs (pos (suc n)) p q = absurd (omega (arith, ltb-false 0 (suc n) q))
 signs (negsuc n) p q = absurd (subst T p tt)
 
-first-crosses : (M S : ℤ) (a : List Samples) → 0 < activity a 0 → isZero (excess M S a 0) ≡ true → isCrossing M S a 0 ≡ true
+first-crosses : (M S : ℤ) (T : Thresholds) (a : List Samples) → 0 < activity a 0 → isZero (excess M S T a 0) ≡ true → isCrossing M S T a 0 ≡ true
 unfolding isCrossing
-first-crosses M S a p z = simp (lt-ltb 0 (activity a 0) p, z)
+first-crosses M S T a p z = simp (lt-ltb 0 (activity a 0) p, z)
 
 -- ---- the crossing that is used
 
 -- whether there is a crossing of the meter at a place
 abbrev pub crosses : Meter → ℕ → Bool
-crosses m = isCrossing (marginOf m) (powerOf m) (m .state .a)
+crosses m = isCrossing (marginOf m) (powerOf m) (listOf m) (m .state .a)
 
 pub no-crossing : (m : Meter) (j : ℕ) → crosses m j ≡ false → CrossingAt m j → ⊥
 no-crossing m j e c = absurd (true≢false (sym (c .crosses) ∙ e))
 
-pub highest-used : (m : Meter) (j : ℕ) → Highest (crosses m) thresholds j → Used m j
+pub highest-used : (m : Meter) (j : ℕ) → Highest (crosses m) (listOf m .count) j → Used m j
 highest-used m j h =
     record { crossing = record { place = h .place; crosses = h .holds }; none-higher = λ i l c. no-crossing m i (h .none-higher i l (c .place)) c }
 
@@ -101,7 +104,7 @@ module _ (m : Meter) (t : Tested m) where
 
   nowhere : crossingOf m ≡ none → (j : ℕ) → CrossingAt m j → ⊥
   unfolding crossingOf crossingIn crossing
-  nowhere e j c = no-crossing m j (not-found (crosses m) thresholds e j (c .place)) c
+  nowhere e j c = no-crossing m j (not-found (crosses m) (listOf m .count) e j (c .place)) c
 
   a-above : 0 < activity (m .state .a) 0
   unfolding noActivity
@@ -113,7 +116,7 @@ module _ (m : Meter) (t : Tested m) where
     where
       go : (b : Bool) → ltZ (pos 0) (firstOfMeter m) ≡ b → b ≡ true
       go true p = refl
-      go false p = absurd (nowhere e 0 (record { place = omega arith; crosses = first-crosses (marginOf m) (powerOf m) (m .state .a) a-above (signs (firstOfMeter m) b p) }))
+      go false p = absurd (nowhere e 0 (record { place = omega (arith, loaded (listOf m) (possible m (t .passed) .list) .least); crosses = first-crosses (marginOf m) (powerOf m) (listOf m) (m .state .a) a-above (signs (firstOfMeter m) b p) }))
 
   pub at-15 : crossingOf m ≡ none → ltZ (firstOfMeter m) (pos 0) ≡ true → refusedReport 15 m ≡ reportCall m
   at-15 e b = no-report 15 m (omega arith) (four 15 (here 15 (levelBelow m) _ (below-is none e ∙ b)))
@@ -122,7 +125,7 @@ module _ (m : Meter) (t : Tested m) where
   at-16 e b =
       no-report 16 m (omega arith) (four 16 (past 15 (levelBelow m) _ (below-is none e ∙ b) (here 16 (levelAbove m) _ (above-is none e ∙ above-zero e b))))
 
-  pub at-0 : (j : ℕ) → crossingOf m ≡ some j → reportedWith (levelsAt (marginOf m) (m .state .sums .n .0) (twoWords (m .state .sums .sq)) (m .state .a) j) m ≡ reportCall m
+  pub at-0 : (j : ℕ) → crossingOf m ≡ some j → reportedWith (levelsAt (marginOf m) (m .state .sums .n .0) (twoWords (m .state .sums .sq)) (listOf m) (m .state .a) j) m ≡ reportCall m
   unfolding reportedWith reportCall reportFor reportAt
   at-0 j e =
       ap (λ (r : ℕ). record { number = r; meter = m; report = cond (eqb r 0) (reportAt m j) noReport })
@@ -131,7 +134,7 @@ module _ (m : Meter) (t : Tested m) where
 
   used : (j : ℕ) → crossingOf m ≡ some j → Used m j
   unfolding crossingOf crossingIn crossing
-  used j e = highest-used m j (found (crosses m) thresholds j e)
+  used j e = highest-used m j (found (crosses m) (listOf m .count) j e)
 
 -- ---- the report of METHOD.md
 

@@ -8,7 +8,7 @@ use lib.Dec.{T}
 use lib.IntN.{ℤ, pos, negsuc, natAbs}
 use lib.Signed.{ltZ}
 use Rattle.setting.specs.Settings.{leastMargin, largestMargin, wrongMargin}
-use Rattle.possible.proofs.Below.{neither}
+use Rattle.thresholds.proofs.Below.{neither}
 
 -- a margin from 1 to 22314
 pub record Allowed (M : ℤ) : Type 0 where

@@ -7,26 +7,27 @@ use lib.IntN.{ℤ, pos, _-ℤ_}
 use lib.ListN.{replicate}
 use lib.Signed.{ltZ}
 use Rattle.level.specs.Logarithm.{lev}
-use Rattle.level.specs.Types.{samplesOf, thresholds, activity, twoWords}
+use Rattle.level.specs.Types.{samplesOf, activity, twoWords}
+use Rattle.thresholds.specs.Lists.{places}
 use Rattle.crossing.specs.Levels.{longTerm, excess}
 use Rattle.crossing.specs.Crossing.{isCrossing, lowerOf, upperOf, activeLevel}
 use Rattle.percent.specs.Percent.{IsPercent}
 use Rattle.setting.specs.Settings.{isMarked}
 use Rattle.meter.specs.declared.Meter.{Meter}
 use Rattle.meter.specs.declared.Report.{Report}
-use Rattle.meter.specs.Reports.{marginOf}
+use Rattle.meter.specs.Reports.{marginOf, listOf}
 
 -- lev(sq), and d_0
 abbrev pub powerOf : Meter → ℤ
 powerOf m = pos (lev (twoWords (m .state .sums .sq)))
 
 abbrev pub lowestExcess : Meter → ℤ
-lowestExcess m = excess (marginOf m) (powerOf m) (m .state .a) 0
+lowestExcess m = excess (marginOf m) (powerOf m) (listOf m) (m .state .a) 0
 
 -- there is a crossing at j
 pub record CrossingAt (m : Meter) (j : ℕ) : Type 0 where
-  pub place : j < thresholds
-  pub crosses : isCrossing (marginOf m) (powerOf m) (m .state .a) j ≡ true
+  pub place : j < listOf m .count
+  pub crosses : isCrossing (marginOf m) (powerOf m) (listOf m) (m .state .a) j ≡ true
 
 -- the crossing that is used: there is none at a higher place
 pub record Used (m : Meter) (j : ℕ) : Type 0 where
@@ -40,10 +41,10 @@ pub record ReportAt (m : Meter) (j : ℕ) (r : Report) : Type 0 where
   pub sq : twoWords (r .sq) ≡ twoWords (m .state .sums .sq)
   pub a : r .a ≡ m .state .a
   pub L : r .levels .level .0 ≡ longTerm (powerOf m) (m .state .sums .n .0)
-  pub A : r .levels .active .0 ≡ activeLevel (marginOf m) (powerOf m) (m .state .a) j
+  pub A : r .levels .active .0 ≡ activeLevel (marginOf m) (powerOf m) (listOf m) (m .state .a) j
   pub C : r .levels .threshold .0 ≡ r .levels .active .0 -ℤ marginOf m
   pub F : r .levels .factor .0 ≡ r .levels .level .0 -ℤ r .levels .active .0
-  pub lower : r .levels .lower ≡ lowerOf (marginOf m) (powerOf m) (m .state .a) j
+  pub lower : r .levels .lower ≡ lowerOf (marginOf m) (powerOf m) (listOf m) (m .state .a) j
   pub upper : r .levels .upper ≡ upperOf j
   pub T : IsPercent (r .levels .factor .0) (r .percent .0)
   pub M : r .margin .0 ≡ marginOf m
@@ -55,7 +56,7 @@ pub record AllZero (r : Report) : Type 0 where
   pub s : r .s ≡ pos 0
   pub high : r .sq .high ≡ 0
   pub low : r .sq .low ≡ 0
-  pub a : r .a ≡ replicate thresholds (samplesOf 0)
+  pub a : r .a ≡ replicate places (samplesOf 0)
   pub L : r .levels .level .0 ≡ pos 0
   pub A : r .levels .active .0 ≡ pos 0
   pub C : r .levels .threshold .0 ≡ pos 0

@@ -6,6 +6,7 @@ use lib.Dec.{eqb}
 use lib.IntN.{ℤ, pos}
 use Rattle.level.specs.Types.{stepsOf}
 use Rattle.refusal.specs.First.{firstOf}
+use Rattle.thresholds.specs.Lists.{noList}
 use Rattle.block.specs.Block.{samplesIn}
 use Rattle.refusal.specs.Number.{numberGiven}
 use Rattle.meter.specs.declared.Fed.{Fed}
@@ -39,11 +40,11 @@ reportedBy f = record { number = numberGiven (f .answer); meter = f .meter; repo
 
 -- the fresh meter: that setting, each h_j = I, all else zero
 unfoldable pub fresh : Setting → Meter
-fresh c = record { setting = c; state = freshState (iOf c) }
+fresh c = record { setting = c; state = freshState (c .thresholds .count) (iOf c) }
 
 -- the meter of all zeros, beside a refused opening
 unfoldable pub zeroMeter : Meter
-zeroMeter = record { setting = record { code = 0; offset = pos 0; margin = stepsOf (pos 0) }; state = freshState 0 }
+zeroMeter = record { setting = record { code = 0; offset = pos 0; margin = stepsOf (pos 0); thresholds = noList }; state = freshState 0 0 }
 
 -- what counting goes by: the rate's K and I, and the offset
 unfoldable pub countingOf : Setting → Counting
@@ -51,7 +52,7 @@ countingOf c = record { k = kOf c; i = iOf c; offset = c .offset }
 
 -- the meter after samples in order
 unfoldable pub afterSamples : Meter → List ℤ → Meter
-afterSamples m xs = record { setting = m .setting; state = stateAfter (countingOf (m .setting)) (m .state) xs }
+afterSamples m xs = record { setting = m .setting; state = stateAfter (countingOf (m .setting)) (m .setting .thresholds) (m .state) xs }
 
 -- a call that is accepted where the number is 0 hands back the first meter, else the second
 abbrev pub handed : ℕ → Meter → Meter → Handed

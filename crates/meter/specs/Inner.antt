@@ -25,7 +25,7 @@ usableRate m = cond (impossible m) none (rateOf (m .setting .code))
 
 -- the meter that has taken no sample, with any I
 unfoldable pub freshAt : Setting → (I : ℕ) → Meter
-freshAt c I = record { setting = c; state = freshState I }
+freshAt c I = record { setting = c; state = freshState (c .thresholds .count) I }
 
 -- a meter that refusal 2 lets pass, with its rate
 pub record Usable (m : Meter) (r : Rate) : Type 0 where

@@ -5,12 +5,14 @@ use Prim.Native.Nat.{ℕ, _+_}
 use lib.Dec.{eqb, ltb}
 use lib.IntN.{ℤ}
 use lib.ListN.{length}
-use Rattle.level.specs.Types.{thresholds, mostSamples}
+use Rattle.level.specs.Types.{mostSamples}
+use Rattle.thresholds.specs.Lists.{places, listRules, unloadable}
+use Rattle.thresholds.specs.Places.{someBelow, someFrom}
 use Rattle.rate.specs.Rates.{isNamed}
 use Rattle.refusal.specs.First.{Rule}
 use Rattle.block.specs.Block.{count, before}
 use Rattle.block.specs.Refusals.{blockRules}
-use Rattle.possible.specs.Impossible.{anyOf, someBelow, impossibleSums, impossibleCounter}
+use Rattle.possible.specs.Impossible.{anyOf, impossibleSums, impossibleCounter, filledCounter}
 use Rattle.setting.specs.declared.Setting.{Setting}
 use Rattle.setting.specs.Settings.{iOf, wrongMargin}
 use Rattle.meter.specs.declared.Meter.{Meter}
@@ -24,9 +26,11 @@ unfoldable pub impossible : Meter → Bool
 impossible m =
     anyOf
     (unnamedCode (m .setting)
+    ∷ unloadable (m .setting .thresholds)
     ∷ wrongMargin (m .setting .margin .0)
     ∷ impossibleSums (m .state .sums)
-    ∷ someBelow thresholds (impossibleCounter (iOf (m .setting)) (m .state))
+    ∷ someBelow (m .setting .thresholds .count) (impossibleCounter (iOf (m .setting)) (m .state))
+    ∷ someFrom (m .setting .thresholds .count) places (filledCounter (m .state))
     ∷ [])
 
 -- 3: a chunk above 4096
@@ -42,7 +46,7 @@ unfoldable pub tooMany : Meter → ℕ → Bool
 tooMany m new = ltb mostSamples (m .state .sums .n .0 + new)
 
 unfoldable pub openRules : Setting → List Rule
-openRules c = (1, unnamedCode c) ∷ (17, wrongMargin (c .margin .0)) ∷ []
+openRules c = (1, unnamedCode c) ∷ (17, wrongMargin (c .margin .0)) ∷ listRules (c .thresholds)
 
 unfoldable pub chunkRules : Meter → List ℤ → List Rule
 chunkRules m xs = (2, impossible m) ∷ (3, longChunk xs) ∷ (11, tooMany m (length xs)) ∷ []

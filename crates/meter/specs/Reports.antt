@@ -6,7 +6,9 @@ use Prim.Native.Nat.{ℕ}
 use lib.Dec.{eqb}
 use lib.IntN.{ℤ, pos}
 use lib.Signed.{ltZ}
-use Rattle.level.specs.Types.{samplesOf, hundredthsOf, stepsOf, thresholds, activity, twoWords, words}
+use Rattle.level.specs.Types.{samplesOf, hundredthsOf, stepsOf, activity, twoWords, words}
+use Rattle.thresholds.specs.Lists.{places}
+use Rattle.thresholds.specs.declared.Thresholds.{Thresholds}
 use Rattle.refusal.specs.First.{Rule}
 use Rattle.meter.specs.declared.Meter.{Meter}
 use Rattle.sample.specs.Sample.{each}
@@ -25,12 +27,16 @@ abbrev pub isNone : Option ℕ → Bool
 isNone none = true
 isNone (some j) = false
 
+-- the meter's list
+abbrev pub listOf : Meter → Thresholds
+listOf m = m .setting .thresholds
+
 -- the highest crossing of a meter, and d_0
 unfoldable pub crossingOf : Meter → Option ℕ
-crossingOf m = crossingIn (marginOf m) (twoWords (m .state .sums .sq)) (m .state .a)
+crossingOf m = crossingIn (marginOf m) (twoWords (m .state .sums .sq)) (listOf m) (m .state .a)
 
 unfoldable pub firstOfMeter : Meter → ℤ
-firstOfMeter m = firstExcess (marginOf m) (twoWords (m .state .sums .sq)) (m .state .a)
+firstOfMeter m = firstExcess (marginOf m) (twoWords (m .state .sums .sq)) (listOf m) (m .state .a)
 
 -- 12: n = 0
 unfoldable pub noSamples : Meter → Bool
@@ -69,7 +75,7 @@ noReport =
       n = samplesOf 0;
       s = pos 0;
       sq = words 0;
-      a = each thresholds (λ j. samplesOf 0);
+      a = each places (λ j. samplesOf 0);
       levels = noLevels;
       percent = hundredthsOf 0;
       margin = stepsOf (pos 0);
@@ -95,7 +101,7 @@ reportWith m l =
 unfoldable pub reportAt : Meter → ℕ → Report
 reportAt m j =
     let sums = m .state .sums in
-    reportWith m (levelsAt (marginOf m) (sums .n .0) (twoWords (sums .sq)) (m .state .a) j)
+    reportWith m (levelsAt (marginOf m) (sums .n .0) (twoWords (sums .sq)) (listOf m) (m .state .a) j)
 
 -- the report at what the search for a crossing found
 unfoldable pub reportFor : Meter → Option ℕ → Report

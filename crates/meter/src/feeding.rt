@@ -95,7 +95,7 @@ pub(crate) fn feed(meter: Meter, rate: Rate, xs: &[i16]) -> Fed
         i: rate.i,
         offset: setting.offset,
     };
-    let state = meter.state.after(by, xs);
+    let state = meter.state.after(by, setting.thresholds, xs);
     Fed {
         answer: Answer::Accepted,
         meter: Meter { setting, state },

@@ -10,10 +10,10 @@ use level::Hundredths;
 use level::Samples;
 use level::Squares;
 use level::Steps;
-use level::THRESHOLDS;
 use refusal::Answer;
 use sample::State;
 use setting::Setting;
+use thresholds::PLACES;
 
 // A meter: its setting, and what samples change.
 pub struct Meter {
@@ -27,7 +27,7 @@ pub struct Report {
     pub n: Samples,
     pub s: i64,
     pub sq: Squares,
-    pub a: [Samples; THRESHOLDS],
+    pub a: [Samples; PLACES],
     pub levels: Levels,
     pub percent: Hundredths,
     pub margin: Steps,

@@ -1,6 +1,8 @@
 // Opening a meter.
 ghost use mathlib.Core.Path.{_≡_};
+ghost use Prim.Native.Nat.{_≤_};
 ghost use Rattle.refusal.specs.Number.{numberOf};
+ghost use Rattle.thresholds.specs.Lists.{places};
 ghost use Rattle.meter.specs.Calls.{handedBy, openCall, zeroMeter};
 ghost use Rattle.meter.specs.Inner.{freshAt, refusedWith};
 use crate::Fed;
@@ -9,7 +11,6 @@ use crate::feeding;
 use level::Samples;
 use level::Squares;
 use level::Steps;
-use level::THRESHOLDS;
 use rate::Named;
 use rate::Rate;
 use refusal::Answer;
@@ -17,6 +18,8 @@ use refusal::Refusal;
 use sample::State;
 use sample::Sums;
 use setting::Setting;
+use thresholds::PLACES;
+use thresholds::Thresholds;
 
 impl Meter {
     // The fresh meter; or a refusal, with a meter of all zeros that every later call refuses.
@@ -28,9 +31,14 @@ impl Meter {
                 if setting::wrong_margin(setting.margin) {
                     return unopened(Refusal::WrongMargin);
                 }
-                Fed {
-                    answer: Answer::Accepted,
-                    meter: fresh(setting, rate.i),
+                let list = setting.thresholds;
+                let count = list.count;
+                match thresholds::load(&list.at, count) {
+                    Answer::Accepted => Fed {
+                        answer: Answer::Accepted,
+                        meter: fresh(setting, count, rate.i),
+                    },
+                    Answer::Refused(why) => unopened(why),
                 }
             }
             Named::Nothing => unopened(Refusal::UnnamedRate),
@@ -46,12 +54,14 @@ fn unopened(why: Refusal) -> Fed
         code: 0,
         offset: 0,
         margin: Steps::of(0),
+        thresholds: Thresholds::none(),
     };
-    feeding::refused(fresh(nothing, 0), why)
+    feeding::refused(fresh(nothing, 0, 0), why)
 }
 
-// A meter that has taken no sample: all zeros but the hangovers.
-fn fresh(setting: Setting, hangover: u64) -> Meter
+// A meter that has taken no sample: all zeros but the hangovers of the list's `count` thresholds.
+fn fresh(setting: Setting, count: usize, hangover: u64) -> Meter
+    requires { ⌜ (count ≡ setting .thresholds .count) × (count ≤ places) ⌝ }
     ensures { λ r. ⌜ r ≡ freshAt setting hangover ⌝ }
 {
     let n = Samples::of(0);
@@ -62,12 +72,18 @@ fn fresh(setting: Setting, hangover: u64) -> Meter
         p: 0,
         q: 0,
     };
+    let mut h = [0u64; PLACES];
+    let mut j = 0;
+    while j < count {
+        h[j] = hangover;
+        j += 1;
+    }
     Meter {
         setting,
         state: State {
             sums,
-            a: [n; THRESHOLDS],
-            h: [hangover; THRESHOLDS],
+            a: [n; PLACES],
+            h,
         },
     }
 }

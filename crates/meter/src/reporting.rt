@@ -15,10 +15,10 @@ use level::Hundredths;
 use level::Samples;
 use level::Squares;
 use level::Steps;
-use level::THRESHOLDS;
 use rate::Named;
 use refusal::Answer;
 use refusal::Refusal;
+use thresholds::PLACES;
 
 impl Meter {
     // The report on a meter; or a refusal, with a report of all zeros.
@@ -49,7 +49,13 @@ fn measured(meter: Meter) -> Reported
     if a[0].count() == 0 {
         return unreported(meter, Refusal::NoActivity);
     }
-    match crossing::find_levels(sums.n, sq, a, meter.setting.margin) {
+    match crossing::find_levels(
+        sums.n,
+        sq,
+        meter.setting.thresholds,
+        a,
+        meter.setting.margin,
+    ) {
         Found::At(levels) => reported(meter, levels),
         Found::Below => unreported(meter, Refusal::NoCrossingBelow),
         Found::Above => unreported(meter, Refusal::NoCrossingAbove),
@@ -95,7 +101,7 @@ fn unreported(meter: Meter, why: Refusal) -> Reported
             n,
             s: 0,
             sq: Squares { high: 0, low: 0 },
-            a: [n; THRESHOLDS],
+            a: [n; PLACES],
             levels: Levels {
                 level: zero,
                 active: zero,

@@ -12,13 +12,18 @@ pub(crate) fn rate(m: Meter) -> Named
 {
     match Rate::of(m.setting.code) {
         Named::As(rate) => {
+            let list = m.setting.thresholds;
+            let count = list.count;
+            if thresholds::unloadable(&list.at, count) {
+                return Named::Nothing;
+            }
             if setting::wrong_margin(m.setting.margin) {
                 return Named::Nothing;
             }
             if possible::impossible_sums(m.state.sums) {
                 return Named::Nothing;
             }
-            if possible::impossible_counters(m.state, rate.i) {
+            if possible::impossible_counters(m.state, count, rate.i) {
                 return Named::Nothing;
             }
             Named::As(rate)

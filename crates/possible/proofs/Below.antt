@@ -1,18 +1,17 @@
--- One of several conditions, and one of the places below k: from each to all, and from all to each.
-use mathlib.Core.Bool.{Bool, true, false, _||_, or-true}
+-- One of several conditions: from each to all, and from all to each. And a condition on two neighbours, at the second of them.
+use mathlib.Core.Bool.{Bool, true, false, _&&_, _||_}
 use mathlib.Core.List.{List, [], _∷_}
-use mathlib.Core.Logic.{⊎-elim}
-use mathlib.Core.Path.{_≡_, refl, sym, ap, _∙_, subst}
-use Prim.Native.Nat.{ℕ, zero, suc, _+_, _<_}
-use native.Mathlib.Nat.{eq-or-lt-of-le, le-of-suc-le-suc, not-suc-le-zero, le-suc, lt-of-lt-of-le}
-use native.Mathlib.Numerals.{add-one}
+use mathlib.Core.Path.{_≡_, refl, sym, ap, ap₂, _∙_}
+use Prim.Native.Nat.{ℕ, suc, _-_}
 use native.Mathlib.Omega.{arith}
-use lib.Dec.{T}
-use Rattle.possible.specs.Impossible.{anyOf, someBelow}
+use borrow.Author.Tests.{le-leb}
+use lib.Dec.{leb}
+use Rattle.thresholds.proofs.Below.{neither}
+use Rattle.possible.specs.Impossible.{anyOf}
 
-pub neither : (x y : Bool) → x || y ≡ false → (x ≡ false) × (y ≡ false)
-neither true y h = absurd (subst T h tt)
-neither false y h = (refl, h)
+-- after the first place there is one before
+pub after-first : (j : ℕ) (f : ℕ → Bool) → leb 1 (suc j) && f (suc j - 1) ≡ f j
+after-first j f = ap₂ (λ (b : Bool) (i : ℕ). b && f i) (le-leb 1 (suc j) (omega arith)) (omega arith)
 
 -- ---- conditions, tested one after another
 
@@ -43,29 +42,3 @@ pub of-none : (l : List Bool) → NoneOf l → anyOf l ≡ false
 unfolding anyOf NoneOf
 of-none [] n = refl
 of-none (b ∷ rest) n = simp (n .0, of-none rest (n .1))
-
--- ---- places
-
-pub none-below : (k : ℕ) (f : ℕ → Bool) → ((j : ℕ) → j < k → f j ≡ false) → someBelow k f ≡ false
-unfolding someBelow
-none-below zero f h = refl
-none-below (suc k) f h = simp (none-below k f (λ j l. h j (lt-of-lt-of-le l (le-suc k))), h k (omega arith))
-
-pub each-below : (k : ℕ) (f : ℕ → Bool) → someBelow k f ≡ false → (j : ℕ) → j < k → f j ≡ false
-unfolding someBelow
-each-below zero f h j l = absurd (not-suc-le-zero l)
-each-below (suc k) f h j l =
-    let n = neither (someBelow k f) (f k) h in
-    ⊎-elim (λ e. ap f e ∙ n .1) (λ s. each-below k f (n .0) j s) (eq-or-lt-of-le (le-of-suc-le-suc l))
-
-pub some-below : (f : ℕ → Bool) (j k : ℕ) → f j ≡ true → j < k → someBelow k f ≡ true
-unfolding someBelow
-some-below f j zero e l = absurd (not-suc-le-zero l)
-some-below f j (suc k) e l =
-    ⊎-elim (λ p. ap (λ (b : Bool). someBelow k f || b) (ap f (sym p) ∙ e) ∙ or-true (someBelow k f))
-    (λ p. ap (λ (b : Bool). b || f k) (some-below f j k e p))
-    (eq-or-lt-of-le (le-of-suc-le-suc l))
-
-pub one-more : (f : ℕ → Bool) (j : ℕ) → someBelow j f ≡ false → f j ≡ false → someBelow (j + 1) f ≡ false
-unfolding someBelow
-one-more f j a b = ap (λ (k : ℕ). someBelow k f) (add-one j) ∙ ap (λ (x : Bool). x || f j) a ∙ b

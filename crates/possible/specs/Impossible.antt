@@ -2,11 +2,11 @@
 -- testing.
 use mathlib.Core.Bool.{Bool, false, _&&_, _||_}
 use mathlib.Core.List.{List, [], _∷_}
-use Prim.Native.Nat.{ℕ, zero, suc, _+_, _*_, _^_}
-use lib.Dec.{ltb}
+use Prim.Native.Nat.{ℕ, zero, suc, _+_, _-_, _*_, _^_}
+use lib.Dec.{leb, ltb}
 use lib.IntN.{natAbs}
 use lib.ListN.{getD}
-use Rattle.level.specs.Types.{thresholds, mostSamples, activity, twoWords}
+use Rattle.level.specs.Types.{mostSamples, activity, twoWords}
 use Rattle.sample.specs.declared.State.{State}
 use Rattle.sample.specs.declared.Sums.{Sums}
 
@@ -14,11 +14,6 @@ use Rattle.sample.specs.declared.Sums.{Sums}
 unfoldable pub anyOf : List Bool → Bool
 anyOf [] = false
 anyOf (b ∷ rest) = b || anyOf rest
-
--- whether f holds at some j below k
-unfoldable pub someBelow : ℕ → (ℕ → Bool) → Bool
-someBelow zero f = false
-someBelow (suc k) f = someBelow k f || f k
 
 -- the bounds: |s| and sq a sample, and P and Q
 abbrev pub sumBound : ℕ
@@ -60,13 +55,17 @@ longHangover I m j = ltb I (getD (m .h) j 0)
 unfoldable pub largeCount : State → ℕ → Bool
 largeCount m j = ltb (m .sums .n .0) (activity (m .a) j)
 
--- a_j rising with j, from this threshold to the next, where there is one
+-- a_j rising with j, from the threshold before to this one, where there is one before
 unfoldable pub risingCount : State → ℕ → Bool
-risingCount m j = ltb (j + 1) thresholds && ltb (activity (m .a) j) (activity (m .a) (j + 1))
+risingCount m j = leb 1 j && ltb (activity (m .a) (j - 1)) (activity (m .a) j)
 
 -- h_j falling with j
 unfoldable pub fallingHangover : State → ℕ → Bool
-fallingHangover m j = ltb (j + 1) thresholds && ltb (getD (m .h) (j + 1) 0) (getD (m .h) j 0)
+fallingHangover m j = leb 1 j && ltb (getD (m .h) j 0) (getD (m .h) (j - 1) 0)
 
 unfoldable pub impossibleCounter : (I : ℕ) → State → ℕ → Bool
 impossibleCounter I m j = anyOf (longHangover I m j ∷ largeCount m j ∷ risingCount m j ∷ fallingHangover m j ∷ [])
+
+-- a_j or h_j is not zero, which past the end of the list it must be
+unfoldable pub filledCounter : State → ℕ → Bool
+filledCounter m j = ltb 0 (activity (m .a) j) || ltb 0 (getD (m .h) j 0)

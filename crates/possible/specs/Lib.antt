@@ -1,2 +1,1 @@
 pub mod Impossible
-pub mod Inner

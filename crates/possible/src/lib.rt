@@ -1,17 +1,19 @@
 // Refusal 2 as far as it is about a meter's state (METHOD.md, "Why a call is refused"): what no
 // measurement could leave. The conditions are tested in the definition's order.
+ghost use mathlib.Core.Bool.{_||_};
 ghost use mathlib.Core.List.{[], _∷_};
 ghost use mathlib.Core.Path.{_≡_};
-ghost use Prim.Native.Nat.{_*_};
+ghost use Prim.Native.Nat.{_*_, _≤_, min};
 ghost use lib.Dec.{ltb};
-ghost use Rattle.level.specs.Types.{thresholds, twoWords};
-ghost use Rattle.possible.specs.Impossible.{anyOf, someBelow, squareBound, impossibleSums, impossibleCounter};
-ghost use Rattle.possible.specs.Inner.{NextPlace};
+ghost use Rattle.level.specs.Types.{twoWords};
+ghost use Rattle.thresholds.specs.Lists.{places};
+ghost use Rattle.thresholds.specs.Places.{someBelow, someFrom};
+ghost use Rattle.possible.specs.Impossible.{anyOf, squareBound, impossibleSums, impossibleCounter, filledCounter};
 use level::MOST_SAMPLES;
 use level::Squares;
-use level::THRESHOLDS;
 use sample::State;
 use sample::Sums;
+use thresholds::PLACES;
 
 // The bounds of |s| and of sq for each sample, and of P and Q.
 const SUM_BOUND: u64 = 1 << 15;
@@ -54,17 +56,49 @@ fn square_bound(n: u64) -> Squares
     }
 }
 
-// Whether a count or a hangover is too large, or out of order with the next.
-pub fn impossible_counters(state: State, hangover: u64) -> bool
-    ensures { λ r. ⌜ r ≡ someBelow thresholds (impossibleCounter hangover state) ⌝ }
+// Whether a count or a hangover of the list is too large, or out of order with the one before; or one past
+// its end is not zero. No count may be above n, so the first is held to n as the others are to the one
+// before. Of a list that is longer than there are places, these are all.
+pub fn impossible_counters(state: State, count: usize, hangover: u64) -> bool
+    ensures { λ r. ⌜ r ≡ someBelow (min count places) (impossibleCounter hangover state) || someFrom count places (filledCounter state) ⌝ }
 {
-    let n = state.sums.n.count();
-    let a = state.a;
-    let h = state.h;
+    let many = least(count, PLACES);
+    let mut a = state.sums.n.count();
+    let mut h = 0;
     let mut j = 0;
-    while j < THRESHOLDS {
-        let k = next_place(j);
-        if impossible_counter(a[j].count(), h[j], a[k].count(), h[k], n, hangover) {
+    while j < many {
+        let b = state.a[j].count();
+        let g = state.h[j];
+        if impossible_next(a, h, b, g, hangover) {
+            return true;
+        }
+        a = b;
+        h = g;
+        j += 1;
+    }
+    filled_past(state, count)
+}
+
+// The conditions on a counter b, g after the one of a, h.
+fn impossible_next(a: u64, h: u64, b: u64, g: u64, hangover: u64) -> bool
+    ensures { λ r. ⌜ r ≡ anyOf (ltb hangover g ∷ (ltb a b ∷ (ltb g h ∷ []))) ⌝ }
+{
+    if hangover < g {
+        return true;
+    }
+    if a < b {
+        return true;
+    }
+    g < h
+}
+
+// Whether a counter past the end of the list is not zero.
+fn filled_past(state: State, count: usize) -> bool
+    ensures { λ r. ⌜ r ≡ someFrom count places (filledCounter state) ⌝ }
+{
+    let mut j = count;
+    while j < PLACES {
+        if is_filled(state.a[j].count(), state.h[j]) {
             return true;
         }
         j += 1;
@@ -72,25 +106,18 @@ pub fn impossible_counters(state: State, hangover: u64) -> bool
     false
 }
 
-// The place after one; after the last, the last.
-fn next_place(j: usize) -> usize
-    ensures { λ r. ⌜ NextPlace j r ⌝ }
+// Whether a counter is not zero.
+fn is_filled(a: u64, h: u64) -> bool
+    ensures { λ r. ⌜ r ≡ ltb 0 a || ltb 0 h ⌝ }
 {
-    if j < THRESHOLDS - 1 { j + 1 } else { j }
+    if 0 < a {
+        return true;
+    }
+    0 < h
 }
 
-// The conditions on one counter a, h, with the next threshold's b, g beside it.
-fn impossible_counter(a: u64, h: u64, b: u64, g: u64, n: u64, hangover: u64) -> bool
-    ensures { λ r. ⌜ r ≡ anyOf (ltb hangover h ∷ (ltb n a ∷ (ltb a b ∷ (ltb g h ∷ [])))) ⌝ }
+fn least(x: usize, y: usize) -> usize
+    ensures { λ r. ⌜ r ≡ min x y ⌝ }
 {
-    if hangover < h {
-        return true;
-    }
-    if n < a {
-        return true;
-    }
-    if a < b {
-        return true;
-    }
-    g < h
+    if x < y { x } else { y }
 }

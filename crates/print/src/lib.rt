@@ -3,7 +3,6 @@
 use crossing::Levels;
 use level::Samples;
 use level::Squares;
-use level::THRESHOLDS;
 use meter::Fed;
 use meter::Meter;
 use meter::Report;
@@ -11,9 +10,10 @@ use meter::Reported;
 use refusal::Answer;
 use sample::Sums;
 use setting::Setting;
+use thresholds::PLACES;
 
-// A line with `meter` and its 39 values: the code, the offset, the margin, n, s, sq high, sq low, P, Q, the
-// a_j, the h_j.
+// A line with `meter` and its 82 values: the code, the offset, the margin, the list's length and its 24
+// thresholds, n, s, sq high, sq low, P, Q, the 24 a_j, the 24 h_j.
 pub fn meter(line: &mut [u8], used: usize, meter: Meter) -> usize {
     let sums = meter.state.sums;
     let a = meter.state.a;
@@ -21,16 +21,20 @@ pub fn meter(line: &mut [u8], used: usize, meter: Meter) -> usize {
     let used = page::words(line, used, b"meter");
     let used = chosen(line, used, meter.setting);
     let used = followed(line, used, sums);
-    let used = counts(line, used, a);
+    let used = counts(line, used, a, PLACES);
     let used = numbers(line, used, &h);
     page::end_of_line(line, used)
 }
 
-// The code, the offset and the margin, each after a space.
+// The code, the offset, the margin and the thresholds, each after a space.
 fn chosen(line: &mut [u8], used: usize, setting: Setting) -> usize {
+    let list = setting.thresholds;
+    let c = list.at;
     let used = page::spaced(line, used, setting.code as u64);
     let used = spaced_sample(line, used, setting.offset);
-    page::spaced_signed(line, used, setting.margin.value())
+    let used = page::spaced_signed(line, used, setting.margin.value());
+    let used = page::spaced(line, used, list.count as u64);
+    numbers(line, used, &c)
 }
 
 // A space and a sample's value.
@@ -63,8 +67,8 @@ pub fn given(line: &mut [u8], used: usize, name: &[u8], fed: Fed) -> usize {
     page::end_of_line(line, used)
 }
 
-// A line with `report`, the number and, where there is a report, its n, s, sq high, sq low, the a_j, L, A,
-// C, F, lower, upper, T, the margin and its mark.
+// A line with `report`, the number and, where there is a report, its n, s, sq high, sq low, the 24 a_j, L,
+// A, C, F, lower, upper, T, the margin and its mark.
 pub fn report(line: &mut [u8], used: usize, reported: Reported) -> usize {
     let answer = reported.answer;
     let used = page::words(line, used, b"report");
@@ -84,7 +88,7 @@ fn measured(line: &mut [u8], used: usize, report: Report) -> usize {
     let n = report.n;
     let sq = report.sq;
     let used = totals(line, used, n, report.s, sq);
-    let used = counts(line, used, a);
+    let used = counts(line, used, a, PLACES);
     let used = levels(line, used, found);
     let used = page::spaced(line, used, found.lower as u64);
     let used = page::spaced(line, used, found.upper as u64);
@@ -98,11 +102,12 @@ fn as_digit(test: bool) -> u64 {
     if test { 1 } else { 0 }
 }
 
-// Activity counts, each after a space.
-pub fn counts(line: &mut [u8], used: usize, a: [Samples; THRESHOLDS]) -> usize {
+// The first so many activity counts, each after a space.
+pub fn counts(line: &mut [u8], used: usize, a: [Samples; PLACES], count: usize) -> usize {
+    let many = coding::least(count, PLACES);
     let mut end = used;
     let mut j = 0;
-    while j < THRESHOLDS {
+    while j < many {
         end = page::spaced(line, end, a[j].count());
         j += 1;
     }
@@ -117,11 +122,11 @@ pub fn levels(line: &mut [u8], used: usize, levels: Levels) -> usize {
     page::spaced_signed(line, used, levels.factor.value())
 }
 
-// A number for each threshold, each after a space.
-fn numbers(line: &mut [u8], used: usize, xs: &[u64; THRESHOLDS]) -> usize {
+// A number for each place, each after a space.
+fn numbers(line: &mut [u8], used: usize, xs: &[u64; PLACES]) -> usize {
     let mut end = used;
     let mut j = 0;
-    while j < THRESHOLDS {
+    while j < PLACES {
         end = page::spaced(line, end, xs[j]);
         j += 1;
     }

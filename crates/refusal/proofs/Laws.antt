@@ -10,7 +10,7 @@ use borrow.Author.Tests.{eqb-true, ltb-true, lt-ltb}
 use lib.Dec.{T, eqb, ltb, lit<}
 use lib.ListN.{getD}
 use Rattle.refusal.specs.declared.Refusal.{Refusal}
-use Rattle.refusal.specs.declared.Refusal.the-variants.{UnnamedRate, ImpossibleMeter, LongChunk, BlockLength, BlockCheck, BlockKind, BlockRate, BlockCount, BlockUnused, BlockPlace, TooManySamples, NoSamples, NoSignal, NoActivity, NoCrossingBelow, NoCrossingAbove, WrongMargin, UnwritableSamples}
+use Rattle.refusal.specs.declared.Refusal.the-variants.{UnnamedRate, ImpossibleMeter, LongChunk, BlockLength, BlockCheck, BlockKind, BlockRate, BlockCount, BlockUnused, BlockPlace, TooManySamples, NoSamples, NoSignal, NoActivity, NoCrossingBelow, NoCrossingAbove, WrongMargin, UnwritableSamples, ListLength, ListEntry, ListEnd}
 use Rattle.refusal.specs.Number.{numberOf}
 use Rattle.refusal.specs.First.{Rule, firstOf, NoneApplies, applies, numbered, rising, Given, Lowest}
 
@@ -99,7 +99,7 @@ given-lowest rules s = (given rules (rising-numbered 0 rules s), lowest 0 rules 
 -- ---- the numbers of the refusals
 
 refusals : List Refusal
-refusals = UnnamedRate ∷ ImpossibleMeter ∷ LongChunk ∷ BlockLength ∷ BlockCheck ∷ BlockKind ∷ BlockRate ∷ BlockCount ∷ BlockUnused ∷ BlockPlace ∷ TooManySamples ∷ NoSamples ∷ NoSignal ∷ NoActivity ∷ NoCrossingBelow ∷ NoCrossingAbove ∷ WrongMargin ∷ UnwritableSamples ∷ []
+refusals = UnnamedRate ∷ ImpossibleMeter ∷ LongChunk ∷ BlockLength ∷ BlockCheck ∷ BlockKind ∷ BlockRate ∷ BlockCount ∷ BlockUnused ∷ BlockPlace ∷ TooManySamples ∷ NoSamples ∷ NoSignal ∷ NoActivity ∷ NoCrossingBelow ∷ NoCrossingAbove ∷ WrongMargin ∷ UnwritableSamples ∷ ListLength ∷ ListEntry ∷ ListEnd ∷ []
 
 -- each stands in the list where its number says, counted from 1
 listed : (why : Refusal) → (getD (UnnamedRate ∷ refusals) (numberOf why) UnnamedRate ≡ why) × T (ltb 0 (numberOf why))
@@ -122,6 +122,9 @@ listed NoCrossingBelow = (refl, tt)
 listed NoCrossingAbove = (refl, tt)
 listed WrongMargin = (refl, tt)
 listed UnwritableSamples = (refl, tt)
+listed ListLength = (refl, tt)
+listed ListEntry = (refl, tt)
+listed ListEnd = (refl, tt)
 
 -- every refusal has a number above 0, and no two have the same
 pub positive : (why : Refusal) → 0 < numberOf why

@@ -40,6 +40,12 @@ pub enum Refusal {
     WrongMargin,
     // 18: samples that make no block: none, more than 248, or such as would end above 2^48
     UnwritableSamples,
+    // 19: opening with a list of thresholds that is too short or too long
+    ListLength,
+    // 20: with one that has an entry not above the one before, or more than twice it
+    ListEntry,
+    // 21: with one whose first or last entry is out of its range
+    ListEnd,
 }
 
 // What a call answers.
@@ -81,5 +87,8 @@ pub fn number(why: Refusal) -> u32
         Refusal::NoCrossingAbove => 16,
         Refusal::WrongMargin => 17,
         Refusal::UnwritableSamples => 18,
+        Refusal::ListLength => 19,
+        Refusal::ListEntry => 20,
+        Refusal::ListEnd => 21,
     }
 }

@@ -1,5 +1,7 @@
 // Records as bytes: how long they are, and how much of one is kept.
+ghost use Prim.Native.Nat.{_≤_};
 use crate::Going;
+use crate::calls;
 use input::Passed;
 use input::Streams;
 
@@ -24,7 +26,7 @@ fn head_ahead(bytes: &[u8], streams: Streams) -> usize {
 // How many bytes of the record ahead are kept.
 fn kept_ahead(bytes: &[u8], streams: Streams) -> usize {
     let source = streams.source;
-    kept(input::ahead(bytes, source, 12))
+    kept(input::ahead(bytes, source, 14))
 }
 
 // The record ahead, as far as it is read and kept.
@@ -36,10 +38,10 @@ pub fn ahead(bytes: &[u8], streams: Streams) -> &[u8] {
 // How many bytes of a record of a kind say how long it is; of no known kind, none.
 fn head(kind: u8) -> usize {
     match kind {
-        1 => 12,
+        1 => 14,
         2 | 3 => 3,
         4 | 6 => 1,
-        5 => 300,
+        5 => 644,
         7 => 17,
         8 => 4,
         9 => 12,
@@ -51,6 +53,7 @@ fn head(kind: u8) -> usize {
 fn length(record: &[u8]) -> usize {
     let kind = coding::one_byte(record, 0);
     match kind {
+        1 => 14 + 8 * listed(coding::two_bytes(record, 12)),
         2 => 3 + 2 * coding::two_bytes(record, 1) as usize,
         3 => 3 + coding::two_bytes(record, 1) as usize,
         8 => 4 + coding::two_bytes(record, 2) as usize,
@@ -59,8 +62,20 @@ fn length(record: &[u8]) -> usize {
     }
 }
 
-// How many of a record's bytes are kept to play it. Of a chunk longer than a call can take these are the
-// first 4097 samples, and of such a block the first 513 bytes: a meter that refusal 2 lets through
+// How many thresholds follow a length.
+fn listed(count: u16) -> usize
+    ensures { λ r. ⌜ r ≤ 65535 ⌝ }
+{
+    if count == calls::BUILT_IN {
+        0
+    } else {
+        count as usize
+    }
+}
+
+// How many of a record's bytes are kept to play it. Of a list longer than opening can take these are the
+// first 25 thresholds, and opening refuses 25 and more alike. Of a chunk longer than a call can take these
+// are the first 4097 samples, and of such a block the first 513 bytes: a meter that refusal 2 lets through
 // refuses every longer chunk with 3 and every longer block with 4, and the host's check gives 1 by the
 // code alone or else 4. Of the samples to make a block of these are the first 249, which are refused as
 // any more are. So the answer depends on the meter and on these bytes alone, and in making a block on
@@ -68,6 +83,7 @@ fn length(record: &[u8]) -> usize {
 fn kept(record: &[u8]) -> usize {
     let whole = length(record);
     match coding::one_byte(record, 0) {
+        1 => coding::least(whole, 214),
         2 => coding::least(whole, 8197),
         3 => coding::least(whole, 516),
         8 => coding::least(whole, 517),

@@ -6,13 +6,13 @@
 use input::Streams;
 use level::Samples;
 use level::Squares;
-use level::THRESHOLDS;
 use meter::Fed;
 use meter::Meter;
 use meter::Report;
 use refusal::Answer;
 use sample::State;
 use setting::Setting;
+use thresholds::PLACES;
 
 fn main() {
     if os::arg_count() > 1 {
@@ -138,7 +138,8 @@ fn refused(line: &mut [u8], used: usize, number: u32) -> usize {
 
 // The closing lines.
 fn reported(line: &mut [u8], meter: Meter) -> usize {
-    let used = sums(line, meter.state);
+    let list = meter.setting.thresholds;
+    let used = sums(line, meter.state, list.count);
     let given = meter.report();
     let answer = given.answer;
     match answer {
@@ -147,8 +148,9 @@ fn reported(line: &mut [u8], meter: Meter) -> usize {
     }
 }
 
-// The first four, from the meter itself: they stand whether or not there is a report.
-fn sums(line: &mut [u8], state: State) -> usize {
+// The first four, from the meter itself: they stand whether or not there is a report. There are as many
+// counts as its list has thresholds.
+fn sums(line: &mut [u8], state: State, count: usize) -> usize {
     let sums = state.sums;
     let sq = sums.sq;
     let a = state.a;
@@ -157,7 +159,7 @@ fn sums(line: &mut [u8], state: State) -> usize {
     let used = page::words(line, used, b"\nsum");
     let used = page::spaced_signed(line, used, sums.s);
     let used = squares(line, used, sq);
-    counts(line, used, a)
+    counts(line, used, a, count)
 }
 
 fn squares(line: &mut [u8], used: usize, sq: Squares) -> usize {
@@ -166,9 +168,9 @@ fn squares(line: &mut [u8], used: usize, sq: Squares) -> usize {
     page::spaced(line, used, sq.low)
 }
 
-fn counts(line: &mut [u8], used: usize, a: [Samples; THRESHOLDS]) -> usize {
+fn counts(line: &mut [u8], used: usize, a: [Samples; PLACES], count: usize) -> usize {
     let used = page::words(line, used, b"\ncounts");
-    let used = print::counts(line, used, a);
+    let used = print::counts(line, used, a, count);
     page::end_of_line(line, used)
 }
 

@@ -14,7 +14,8 @@ use Rattle.sample.specs.Sample.{hangovers}
 use Rattle.sample.specs.Inner.Bands.{Clear}
 use Rattle.sample.specs.Inner.Runs.{countOver, hangoverOver, plainCounts, countsBy, hangoversBy}
 use Rattle.sample.proofs.Activity.{counted-le, hung-le}
-use Rattle.sample.proofs.Places.{each-at, each-same}
+use Rattle.thresholds.specs.Lists.{places}
+use Rattle.thresholds.proofs.Places.{filled-at, filled-same}
 
 -- ---- on: every sample counts
 
@@ -90,29 +91,29 @@ hangover-over-le I on (suc d) h l = hung-le I on (hangoverOver I on d h) (hangov
 
 -- ---- two envelopes in one band are on the same side of every threshold
 
-pub same-side : (c : ℕ → ℕ) (low high Q R : ℕ) → Clear c low high → low ≤ Q → Q < high → low ≤ R → R < high → (j : ℕ) → leb (c j) Q ≡ leb (c j) R
-same-side c low high Q R clear lq qh lr rh j =
+pub same-side : (c : ℕ → ℕ) (k low high Q R : ℕ) → Clear c k low high → low ≤ Q → Q < high → low ≤ R → R < high → (j : ℕ) → j < k → leb (c j) Q ≡ leb (c j) R
+same-side c k low high Q R clear lq qh lr rh j b =
     ⊎-elim (λ l. le-leb (c j) Q (le-trans l lq) ∙ sym (le-leb (c j) R (le-trans l lr)))
     (λ l. lt-leb (c j) Q (lt-of-lt-of-le qh l) ∙ sym (lt-leb (c j) R (lt-of-lt-of-le rh l)))
-    (clear .side j)
+    (clear .side j b)
 
 -- ---- one sample more, at an envelope q on the same sides as Q
 
-module _ (c : ℕ → ℕ) (k I Q q i : ℕ) (since a h : List ℕ) (s : (j : ℕ) → leb (c j) q ≡ leb (c j) Q) (before : (j : ℕ) → getD since j 0 ≤ i) where
+module _ (c : ℕ → ℕ) (k : ℕ) (few : k ≤ places) (I Q q i : ℕ) (since a h : List ℕ) (s : (j : ℕ) → j < k → leb (c j) q ≡ leb (c j) Q) (before : (j : ℕ) → getD since j 0 ≤ i) where
   later : (j : ℕ) → i + 1 - getD since j 0 ≡ suc (i - getD since j 0)
   later j = omega (arith, before j)
 
   pub one-hangovers : hangovers c k I q (hangoversBy c k I Q i since h) ≡ hangoversBy c k I Q (i + 1) since h
   unfolding hangovers hangoversBy hangoverOver
   one-hangovers =
-      each-same k _ _ (λ j l.
-      ap₂ (λ (b : Bool) (x : ℕ). hung I b x) (s j) (each-at 0 k _ j l)
+      filled-same places k _ _ (λ j l.
+      ap₂ (λ (b : Bool) (x : ℕ). hung I b x) (s j l) (filled-at places k _ j few l)
       ∙ sym (ap (λ (d : ℕ). hangoverOver I (leb (c j) Q) d (getD h j 0)) (later j)))
 
   pub one-counts : plainCounts c k I q (countsBy c k I Q i since a h) (hangoversBy c k I Q i since h) ≡ countsBy c k I Q (i + 1) since a h
   unfolding plainCounts countsBy hangoversBy countOver
   one-counts =
-      each-same k _ _ (λ j l.
-      ap₂ (λ (x y : ℕ). counted I (leb (c j) q) x y) (each-at 0 k _ j l) (each-at 0 k _ j l)
-      ∙ ap (λ (b : Bool). counted I b (countOver I (leb (c j) Q) (i - getD since j 0) (getD a j 0) (getD h j 0)) (hangoverOver I (leb (c j) Q) (i - getD since j 0) (getD h j 0))) (s j)
+      filled-same places k _ _ (λ j l.
+      ap₂ (λ (x y : ℕ). counted I (leb (c j) q) x y) (filled-at places k _ j few l) (filled-at places k _ j few l)
+      ∙ ap (λ (b : Bool). counted I b (countOver I (leb (c j) Q) (i - getD since j 0) (getD a j 0) (getD h j 0)) (hangoverOver I (leb (c j) Q) (i - getD since j 0) (getD h j 0))) (s j l)
       ∙ sym (ap (λ (d : ℕ). countOver I (leb (c j) Q) d (getD a j 0) (getD h j 0)) (later j)))

@@ -9,13 +9,14 @@ use lib.ListN.{length, getD, drop, drop-of-length-le}
 use lib.Seq.{drop-cons}
 use mir.Syntax.{w16}
 use mir.Val.{SFits}
-use Rattle.level.specs.Types.{samplesOf, thresholds}
+use Rattle.level.specs.Types.{samplesOf}
+use Rattle.thresholds.specs.declared.Thresholds.{Thresholds}
+use Rattle.thresholds.specs.Lists.{places, thresholdOf}
 use Rattle.level.specs.declared.Samples.{Samples}
 use Rattle.sample.specs.declared.Counting.{Counting}
 use Rattle.sample.specs.declared.Sums.{Sums}
 use Rattle.sample.specs.declared.State.{State}
 use Rattle.sample.specs.declared.step.Moving.{Moving}
-use Rattle.sample.specs.Envelope.{threshold}
 use Rattle.sample.specs.Sample.{summed, counts, hangovers, stateAfterOne, stateAfter}
 use Rattle.sample.specs.Inner.Steps.{moved, ended, Room}
 use Rattle.sample.specs.Inner.Bands.{Clear}
@@ -28,56 +29,56 @@ split : (xs : List ℤ) (i : ℕ) → i < length xs → drop i xs ≡ getD xs i 
 split xs i h = rw add-one (drop-cons xs i (pos 0) h)
 
 -- a sample of the definition goes into the sums first
-pub step-is : (by : Counting) (m r : Sums) (a h : List ℕ) (xs : List ℤ) (i : ℕ) → i < length xs → r ≡ summed by m (getD xs i (pos 0))
-    → stateAfter by (stateOf m a h) (drop i xs) ≡ led by r a h (drop i xs)
+pub step-is : (by : Counting) (t : Thresholds) (m r : Sums) (a h : List ℕ) (xs : List ℤ) (i : ℕ) → i < length xs → r ≡ summed by m (getD xs i (pos 0))
+    → stateAfter by t (stateOf m a h) (drop i xs) ≡ led by t r a h (drop i xs)
 unfolding stateAfter stateAfterOne led
-step-is by m r a h xs i l e =
-    ap (stateAfter by (stateOf m a h)) (split xs i l)
+step-is by t m r a h xs i l e =
+    ap (stateAfter by t (stateOf m a h)) (split xs i l)
     ∙ ap₂
-    (λ (t : Sums) (c : List Samples). stateAfter by (record { sums = t; a = c; h = hangovers threshold thresholds (by .i) (t .q) h }) (drop (i + 1) xs))
-    (sym e) (ap (λ (t : Sums). counts threshold thresholds (by .i) (t .q) (map samplesOf a) h) (sym e) ∙ counts-plain threshold thresholds (by .i) (r .q) a h)
-    ∙ ap (led by r a h) (sym (split xs i l))
+    (λ (n : Sums) (c : List Samples). stateAfter by t (record { sums = n; a = c; h = hangovers (thresholdOf t) (t .count) (by .i) (n .q) h }) (drop (i + 1) xs))
+    (sym e) (ap (λ (n : Sums). counts (thresholdOf t) (t .count) (by .i) (n .q) (map samplesOf a) h) (sym e) ∙ counts-plain (thresholdOf t) (t .count) (by .i) (r .q) a h)
+    ∙ ap (led by t r a h) (sym (split xs i l))
 
 -- and then into the counters
-count-is : (by : Counting) (r : Sums) (a h : List ℕ) (xs : List ℤ) (i : ℕ) → i < length xs
-    → led by r a h (drop i xs) ≡ stateAfter by (stateOf r (plainCounts threshold thresholds (by .i) (r .q) a h) (hangovers threshold thresholds (by .i) (r .q) h)) (drop (i + 1) xs)
+count-is : (by : Counting) (t : Thresholds) (r : Sums) (a h : List ℕ) (xs : List ℤ) (i : ℕ) → i < length xs
+    → led by t r a h (drop i xs) ≡ stateAfter by t (stateOf r (plainCounts (thresholdOf t) (t .count) (by .i) (r .q) a h) (hangovers (thresholdOf t) (t .count) (by .i) (r .q) h)) (drop (i + 1) xs)
 unfolding led
-count-is by r a h xs i l = ap (led by r a h) (split xs i l)
+count-is by t r a h xs i l = ap (led by t r a h) (split xs i l)
 
 -- past the last sample nothing changes
-pub none-left : (by : Counting) (m : Sums) (a h : List ℕ) (xs : List ℤ) (i : ℕ) → length xs ≤ i → led by m a h (drop i xs) ≡ stateOf m a h
+pub none-left : (by : Counting) (t : Thresholds) (m : Sums) (a h : List ℕ) (xs : List ℤ) (i : ℕ) → length xs ≤ i → led by t m a h (drop i xs) ≡ stateOf m a h
 unfolding led
-none-left by m a h xs i l = ap (led by m a h) (drop-of-length-le xs l)
+none-left by t m a h xs i l = ap (led by t m a h) (drop-of-length-le xs l)
 
-no-more : (by : Counting) (m : Sums) (a h : List ℕ) (xs : List ℤ) (i : ℕ) → length xs ≤ i → stateAfter by (stateOf m a h) (drop i xs) ≡ led by m a h (drop i xs)
+no-more : (by : Counting) (t : Thresholds) (m : Sums) (a h : List ℕ) (xs : List ℤ) (i : ℕ) → length xs ≤ i → stateAfter by t (stateOf m a h) (drop i xs) ≡ led by t m a h (drop i xs)
 unfolding stateAfter
-no-more by m a h xs i l = ap (stateAfter by (stateOf m a h)) (drop-of-length-le xs l) ∙ sym (none-left by m a h xs i l)
+no-more by t m a h xs i l = ap (stateAfter by t (stateOf m a h)) (drop-of-length-le xs l) ∙ sym (none-left by t m a h xs i l)
 
 -- the state at index i, before the sample there: sums that were b and are now at r, and counters that stand for an envelope Q
-abbrev standingAt : Counting → (b : Sums) → Moving → (Q i : ℕ) (since a h : List ℕ) → State
-standingAt by b r Q i since a h =
-    stateOf (ended b r i) (countsBy threshold thresholds (by .i) Q i since a h) (hangoversBy threshold thresholds (by .i) Q i since h)
+abbrev standingAt : Counting → Thresholds → (b : Sums) → Moving → (Q i : ℕ) (since a h : List ℕ) → State
+standingAt by t b r Q i since a h =
+    stateOf (ended b r i) (countsBy (thresholdOf t) (t .count) (by .i) Q i since a h) (hangoversBy (thresholdOf t) (t .count) (by .i) Q i since h)
 
 -- how the run loop stands at index i: the samples before it are in the sums, and count from where each counter stands
 pub record Going (by : Counting) (low high : ℕ) (m : Moving) (xs : List ℤ) (at : ℕ) (r : Moving) (i : ℕ) : Type 0 where
   pub on : at < i
   pub within : i ≤ length xs
   pub room : Room (length xs - i) r
-  pub same : (b : Sums) (Q : ℕ) (since a h : List ℕ) → low ≤ Q → Q < high → Clear threshold low high → ((j : ℕ) → getD since j 0 ≤ at)
-      → ledBy by b m Q at since a h xs ≡ stateAfter by (standingAt by b r Q i since a h) (drop i xs)
+  pub same : (t : Thresholds) → t .count ≤ places → (b : Sums) (Q : ℕ) (since a h : List ℕ) → low ≤ Q → Q < high → Clear (thresholdOf t) (t .count) low high → ((j : ℕ) → getD since j 0 ≤ at)
+      → ledBy by t b m Q at since a h xs ≡ stateAfter by t (standingAt by t b r Q i since a h) (drop i xs)
 
 -- a sample whose envelope is in the band counts where each counter stands
-counted-on : (by : Counting) (low high Q : ℕ) (b : Sums) (r : Moving) (since a h : List ℕ) (xs : List ℤ) (i : ℕ) → i < length xs → low ≤ r .q → r .q < high → low ≤ Q → Q < high → Clear threshold low high
+counted-on : (by : Counting) (t : Thresholds) (few : t .count ≤ places) (low high Q : ℕ) (b : Sums) (r : Moving) (since a h : List ℕ) (xs : List ℤ) (i : ℕ) → i < length xs → low ≤ r .q → r .q < high → low ≤ Q → Q < high → Clear (thresholdOf t) (t .count) low high
     → ((j : ℕ) → getD since j 0 ≤ i)
-    → ledBy by b r Q i since a h xs ≡ stateAfter by (standingAt by b r Q (i + 1) since a h) (drop (i + 1) xs)
-counted-on by low high Q b r since a h xs i l lq qh p q c before =
-    let s = same-side threshold low high (r .q) Q c lq qh p q in
-    let A = countsBy threshold thresholds (by .i) Q i since a h in
-    let H = hangoversBy threshold thresholds (by .i) Q i since h in
-    ap (λ (t : Sums). led by t A H (drop i xs)) (up-to b r i (length xs) l)
-    ∙ count-is by (ended b r (i + 1)) A H xs i l
-    ∙ ap₂ (λ (x y : List ℕ). stateAfter by (stateOf (ended b r (i + 1)) x y) (drop (i + 1) xs))
-    (one-counts threshold thresholds (by .i) Q (r .q) i since a h s before) (one-hangovers threshold thresholds (by .i) Q (r .q) i since a h s before)
+    → ledBy by t b r Q i since a h xs ≡ stateAfter by t (standingAt by t b r Q (i + 1) since a h) (drop (i + 1) xs)
+counted-on by t few low high Q b r since a h xs i l lq qh p q c before =
+    let s = same-side (thresholdOf t) (t .count) low high (r .q) Q c lq qh p q in
+    let A = countsBy (thresholdOf t) (t .count) (by .i) Q i since a h in
+    let H = hangoversBy (thresholdOf t) (t .count) (by .i) Q i since h in
+    ap (λ (n : Sums). led by t n A H (drop i xs)) (up-to b r i (length xs) l)
+    ∙ count-is by t (ended b r (i + 1)) A H xs i l
+    ∙ ap₂ (λ (x y : List ℕ). stateAfter by t (stateOf (ended b r (i + 1)) x y) (drop (i + 1) xs))
+    (one-counts (thresholdOf t) (t .count) few (by .i) Q (r .q) i since a h s before) (one-hangovers (thresholdOf t) (t .count) few (by .i) Q (r .q) i since a h s before)
 
 pub set-out : (by : Counting) (low high : ℕ) (m : Moving) (xs : List ℤ) (at : ℕ) → Runnable by m low high xs at → Going by low high m xs at m (at + 1)
 set-out by low high m xs at g =
@@ -85,7 +86,7 @@ set-out by low high m xs at g =
       on = omega arith;
       within = omega (arith, g .some);
       room = g .room;
-      same = λ b Q since a h p q c before. counted-on by low high Q b m since a h xs at (g .some) (g .from) (g .to) p q c before;
+      same = λ t few b Q since a h p q c before. counted-on by t few low high Q b m since a h xs at (g .some) (g .from) (g .to) p q c before;
     }
 
 -- there is room for a sample where there is one
@@ -98,9 +99,9 @@ module _ (by : Counting) (low high : ℕ) (m : Moving) (xs : List ℤ) (at : ℕ
   kept : Room (length xs - (i + 1)) s
   kept = room-after by r s _ i (length xs) l k f e (g .room)
 
-  stepped : (b : Sums) (Q : ℕ) (since a h : List ℕ) → stateAfter by (standingAt by b r Q i since a h) (drop i xs) ≡ ledBy by b s Q i since a h xs
-  stepped b Q since a h =
-      step-is by (ended b r i) (ended b s (min (i + 1) (length xs))) (countsBy threshold thresholds (by .i) Q i since a h) (hangoversBy threshold thresholds (by .i) Q i since h) xs i l
+  stepped : (t : Thresholds) (b : Sums) (Q : ℕ) (since a h : List ℕ) → stateAfter by t (standingAt by t b r Q i since a h) (drop i xs) ≡ ledBy by t b s Q i since a h xs
+  stepped t b Q since a h =
+      step-is by t (ended b r i) (ended b s (min (i + 1) (length xs))) (countsBy (thresholdOf t) (t .count) (by .i) Q i since a h) (hangoversBy (thresholdOf t) (t .count) (by .i) Q i since h) xs i l
       (ended-at by b r s _ i (length xs) l e)
 
   -- it may end the run
@@ -110,7 +111,7 @@ module _ (by : Counting) (low high : ℕ) (m : Moving) (xs : List ℤ) (at : ℕ
         on = g .on;
         within = g .within;
         room = kept;
-        same = λ b Q since a h p q c before. g .same b Q since a h p q c before ∙ stepped b Q since a h;
+        same = λ t few b Q since a h p q c before. g .same t few b Q since a h p q c before ∙ stepped t b Q since a h;
       }
 
   -- or keep the envelope in the band
@@ -120,8 +121,8 @@ module _ (by : Counting) (low high : ℕ) (m : Moving) (xs : List ℤ) (at : ℕ
         on = omega (arith, g .on);
         within = omega arith;
         room = kept;
-        same = λ b Q since a h p q c before.
-            g .same b Q since a h p q c before ∙ stepped b Q since a h ∙ counted-on by low high Q b s since a h xs i l lq qh p q c (λ j. omega (arith, before j, g .on));
+        same = λ t few b Q since a h p q c before.
+            g .same t few b Q since a h p q c before ∙ stepped t b Q since a h ∙ counted-on by t few low high Q b s since a h xs i l lq qh p q c (λ j. omega (arith, before j, g .on));
       }
 
 -- the samples may end first
@@ -131,10 +132,10 @@ run-out {by} {m = m} {xs = xs} {r = r} {i = i} g h =
       on = g .on;
       within = g .within;
       room = room-less _ _ r (omega arith) (g .room);
-      same = λ b Q since a h′ p q c before.
-          g .same b Q since a h′ p q c before
-          ∙ no-more by (ended b r i) _ _ xs i h
-          ∙ ap (λ (t : Sums). led by t (countsBy threshold thresholds (by .i) Q i since a h′) (hangoversBy threshold thresholds (by .i) Q i since h′) (drop i xs))
+      same = λ t few b Q since a h′ p q c before.
+          g .same t few b Q since a h′ p q c before
+          ∙ no-more by t (ended b r i) _ _ xs i h
+          ∙ ap (λ (n : Sums). led by t n (countsBy (thresholdOf t) (t .count) (by .i) Q i since a h′) (hangoversBy (thresholdOf t) (t .count) (by .i) Q i since h′) (drop i xs))
           (ap (ended b r) (last i (length xs) (g .within) h));
     }
   where

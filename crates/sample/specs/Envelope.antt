@@ -1,5 +1,5 @@
--- The envelope and its thresholds: METHOD.md, "One sample".
-use Prim.Native.Nat.{ℕ, zero, suc, _+_, _-_, _*_, _/_, _^_}
+-- The envelope: METHOD.md, "One sample".
+use Prim.Native.Nat.{ℕ, _+_, _-_, _*_, _/_, _^_}
 use lib.IntN.{ℤ, natAbs, _-ℤ_}
 
 -- K is in parts of this
@@ -21,18 +21,3 @@ size o x = natAbs (x -ℤ o)
 -- that in units of 2^−24 quantizing interval
 unfoldable pub rectified : (o x : ℤ) → ℕ
 rectified o x = size o x * interval
-
--- threshold c_j in units
-unfoldable pub threshold : ℕ → ℕ
-threshold j = 2 ^ (j + 24)
-
--- the thresholds as counting works them out: the first is 2^24, each next is twice the one before
-abbrev pub firstThreshold : ℕ
-firstThreshold = 2 ^ 24
-
-abbrev pub nextThreshold : (before : ℕ) → ℕ
-nextThreshold before = 2 * before
-
-unfoldable pub workedOut : ℕ → ℕ
-workedOut zero = firstThreshold
-workedOut (suc j) = nextThreshold (workedOut j)

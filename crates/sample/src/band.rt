@@ -1,14 +1,14 @@
-// The bands between neighbouring thresholds, and the search for the one in which the envelope lies. There
-// is no table of thresholds: the search takes them one at a time, each worked out from the one before.
+// The bands between neighbouring thresholds, and the search for the one in which the envelope lies: from
+// band to band, up or down, with one threshold read for each.
 ghost use mathlib.Core.Path.{_≡_};
-ghost use Prim.Native.Nat.{_≤_, _^_, min};
-ghost use Rattle.level.specs.Types.{thresholds};
-ghost use Rattle.sample.specs.Envelope.{nextThreshold, workedOut};
-ghost use Rattle.sample.specs.Inner.Bands.{bandAt, IsBand, Searchable, Begun, Around, Before, UpTo};
-use level::THRESHOLDS;
+ghost use Prim.Native.Nat.{_≤_, _<_};
+ghost use lib.ListN.{getD};
+ghost use Rattle.thresholds.specs.Lists.{places};
+ghost use Rattle.sample.specs.Inner.Bands.{lowEnd, highEnd, IsBand, IsUp, IsDown, Around, Searchable, Fallen, Risen, Upward, Downward};
+use thresholds::PLACES;
 
-// The first threshold.
-const FIRST: u64 = 1 << 24;
+// What no envelope comes to: the high end of the band above the last threshold.
+const TOP: u64 = 1 << 63;
 
 // From low up to, not including, high: no threshold lies between them. So many of the thresholds are
 // at or below low.
@@ -20,77 +20,95 @@ pub struct Band {
 
 impl Band {
     // Below the first threshold.
-    pub fn lowest() -> Band
-        ensures { λ r. ⌜ r ≡ bandAt workedOut thresholds 0 ⌝ }
+    pub fn lowest(c: &[u64; PLACES], count: usize) -> Band
+        requires { ⌜ 0 < count ⌝ }
+        ensures { λ r. ⌜ IsBand (λ j. getD (now (c .entry)) j 0) count r ⌝ }
     {
         Band {
             low: 0,
-            high: FIRST,
+            high: c[0],
             below: 0,
         }
     }
 
-    // The band around an envelope: this one, where no threshold was crossed, else one that is searched
-    // for. Above the last threshold doubling goes on, and its bands have no more thresholds below them.
-    pub fn around(self, q: u64) -> Band
-        requires { ⌜ Searchable workedOut thresholds q self ⌝ }
-        ensures { λ r. ⌜ Around workedOut thresholds q r ⌝ }
+    // The band around an envelope, from this one on.
+    pub fn around(self, c: &[u64; PLACES], count: usize, q: u64) -> Band
+        requires { ⌜ Searchable (λ j. getD (now c) j 0) count q self ⌝ }
+        ensures { λ r. ⌜ Around (λ j. getD (now (c .entry)) j 0) count q r ⌝ }
     {
-        if q < self.high {
-            if self.low <= q {
-                return self;
-            }
+        if q < self.low {
+            self.fallen(c, count, q)
+        } else {
+            self.risen(c, count, q)
         }
-        let from = self.begin(q);
-        let mut c = from.high;
-        let mut j = from.below;
-        while c <= q {
-            c = next_threshold(c);
-            j += 1;
-        }
-        Band::up_to(j, c)
     }
 
-    // Where the search begins: upwards at this band, downwards at the lowest again, since a threshold is
-    // worked out from the one below it.
-    fn begin(self, q: u64) -> Band
-        requires { ⌜ IsBand workedOut thresholds self ⌝ }
-        ensures { λ r. ⌜ Begun workedOut thresholds q r ⌝ }
+    // The band around an envelope that lies below this one.
+    fn fallen(self, c: &[u64; PLACES], count: usize, q: u64) -> Band
+        requires { ⌜ Fallen (λ j. getD (now c) j 0) count q self ⌝ }
+        ensures { λ r. ⌜ Around (λ j. getD (now (c .entry)) j 0) count q r ⌝ }
     {
-        if q < self.low { Band::lowest() } else { self }
+        let mut band = self;
+        while q < band.low {
+            band = band.down(c, count);
+        }
+        band
     }
 
-    // The band up to c, which has place j.
-    fn up_to(j: usize, c: u64) -> Band
-        ensures { λ r. ⌜ UpTo workedOut thresholds j c r ⌝ }
+    // The band around an envelope that lies in this one or above it.
+    fn risen(self, c: &[u64; PLACES], count: usize, q: u64) -> Band
+        requires { ⌜ Risen (λ j. getD (now c) j 0) count q self ⌝ }
+        ensures { λ r. ⌜ Around (λ j. getD (now (c .entry)) j 0) count q r ⌝ }
     {
+        let mut band = self;
+        while band.high <= q {
+            band = band.up(c, count);
+        }
+        band
+    }
+
+    // The next band above.
+    fn up(self, c: &[u64; PLACES], count: usize) -> Band
+        requires { ⌜ Upward (λ j. getD (now c) j 0) count self ⌝ }
+        ensures { λ r. ⌜ IsUp (λ j. getD (now (c .entry)) j 0) count self r ⌝ }
+    {
+        let p = self.below + 1;
         Band {
-            low: one_before(j, c),
-            high: c,
-            below: at_most_all(j),
+            low: self.high,
+            high: high_end(c, count, p),
+            below: p,
+        }
+    }
+
+    // The next band below.
+    fn down(self, c: &[u64; PLACES], count: usize) -> Band
+        requires { ⌜ Downward (λ j. getD (now c) j 0) count self ⌝ }
+        ensures { λ r. ⌜ IsDown (λ j. getD (now (c .entry)) j 0) count self r ⌝ }
+    {
+        let p = self.below - 1;
+        Band {
+            low: low_end(c, p),
+            high: self.low,
+            below: p,
         }
     }
 }
 
-// The next threshold.
-fn next_threshold(c: u64) -> u64
-    requires { ⌜ c ≤ 2 ^ 40 ⌝ }
-    ensures { λ r. ⌜ r ≡ nextThreshold c ⌝ }
+// Where the band with so many thresholds below it ends.
+fn high_end(c: &[u64; PLACES], count: usize, p: usize) -> u64
+    requires { ⌜ count ≤ places ⌝ }
+    ensures { λ r. ⌜ r ≡ highEnd (λ j. getD (now (c .entry)) j 0) count p ⌝ }
 {
-    2 * c
+    if p < count { c[p] } else { TOP }
 }
 
-// The threshold before c, which has place j; 0 where c is the first. It is not carried through the search:
-// c is twice it.
-fn one_before(j: usize, c: u64) -> u64
-    ensures { λ r. ⌜ Before workedOut thresholds j c r ⌝ }
+// And where it begins.
+fn low_end(c: &[u64; PLACES], p: usize) -> u64
+    requires { ⌜ p ≤ places ⌝ }
+    ensures { λ r. ⌜ r ≡ lowEnd (λ j. getD (now (c .entry)) j 0) p ⌝ }
 {
-    if j == 0 { 0 } else { c / 2 }
-}
-
-// So many thresholds, and never more than there are.
-fn at_most_all(x: usize) -> usize
-    ensures { λ r. ⌜ r ≡ min x thresholds ⌝ }
-{
-    if x < THRESHOLDS { x } else { THRESHOLDS }
+    if p == 0 {
+        return 0;
+    }
+    c[p - 1]
 }

@@ -4,23 +4,23 @@ ghost use mathlib.Core.Bool.{_||_};
 ghost use mathlib.Core.Path.{_≡_};
 ghost use Prim.Native.Nat.{_≤_, min};
 ghost use lib.Dec.{ltb};
-ghost use Rattle.level.specs.Types.{thresholds};
+ghost use Rattle.thresholds.specs.Lists.{places};
 ghost use Rattle.sample.specs.Inner.Runs.{Crossable, Standing, Settled, Countable, between, countOver, hangoverOver};
-use level::THRESHOLDS;
+use thresholds::PLACES;
 
 // The envelope, which was at or above so many of the thresholds, is now at or above so many: settles
 // the counters of those in between. Where it rose it was below them until now, else at or above them.
 pub fn cross(
-    a: &mut [u64; THRESHOLDS],
-    h: &mut [u64; THRESHOLDS],
-    since: &mut [u64; THRESHOLDS],
+    a: &mut [u64; PLACES],
+    h: &mut [u64; PLACES],
+    since: &mut [u64; PLACES],
     was: usize,
     is: usize,
     at: u64,
     hangover: u64,
 )
-    requires { ⌜ Crossable thresholds hangover at was is (now a) (now h) (now since) ⌝ }
-    ensures { λ _. ⌜ Settled thresholds hangover at (λ j. between was is j || between is was j) (λ j. ltb j was) (now (a .entry)) (now (h .entry)) (now (since .entry)) (now (a .exit)) (now (h .exit)) (now (since .exit)) ⌝ }
+    requires { ⌜ Crossable places hangover at was is (now a) (now h) (now since) ⌝ }
+    ensures { λ _. ⌜ Settled places hangover at (λ j. between was is j || between is was j) (λ j. ltb j was) (now (a .entry)) (now (h .entry)) (now (since .entry)) (now (a .exit)) (now (h .exit)) (now (since .exit)) ⌝ }
 {
     if was < is {
         settle(a, h, since, was, is, false, at, hangover);
@@ -31,34 +31,35 @@ pub fn cross(
 
 // Settles all of them.
 pub fn finish(
-    a: &mut [u64; THRESHOLDS],
-    h: &mut [u64; THRESHOLDS],
-    since: &mut [u64; THRESHOLDS],
+    a: &mut [u64; PLACES],
+    h: &mut [u64; PLACES],
+    since: &mut [u64; PLACES],
     was: usize,
+    count: usize,
     at: u64,
     hangover: u64,
 )
-    requires { ⌜ Crossable thresholds hangover at was thresholds (now a) (now h) (now since) ⌝ }
-    ensures { λ _. ⌜ Settled thresholds hangover at (λ j. between 0 was j || between was thresholds j) (λ j. ltb j was) (now (a .entry)) (now (h .entry)) (now (since .entry)) (now (a .exit)) (now (h .exit)) (now (since .exit)) ⌝ }
+    requires { ⌜ Crossable places hangover at was count (now a) (now h) (now since) ⌝ }
+    ensures { λ _. ⌜ Settled places hangover at (λ j. between 0 was j || between was count j) (λ j. ltb j was) (now (a .entry)) (now (h .entry)) (now (since .entry)) (now (a .exit)) (now (h .exit)) (now (since .exit)) ⌝ }
 {
     settle(a, h, since, 0, was, true, at, hangover);
-    settle(a, h, since, was, THRESHOLDS, false, at, hangover);
+    settle(a, h, since, was, count, false, at, hangover);
 }
 
 // Settles the counters from one place up to another, where the envelope was at or above their
 // thresholds, or below them.
 fn settle(
-    a: &mut [u64; THRESHOLDS],
-    h: &mut [u64; THRESHOLDS],
-    since: &mut [u64; THRESHOLDS],
+    a: &mut [u64; PLACES],
+    h: &mut [u64; PLACES],
+    since: &mut [u64; PLACES],
     from: usize,
     to: usize,
     on: bool,
     at: u64,
     hangover: u64,
 )
-    requires { ⌜ Standing thresholds hangover at (now a) (now h) (now since) × (to ≤ thresholds) ⌝ }
-    ensures { λ _. ⌜ Settled thresholds hangover at (λ j. between from to j) (λ _. on) (now (a .entry)) (now (h .entry)) (now (since .entry)) (now (a .exit)) (now (h .exit)) (now (since .exit)) ⌝ }
+    requires { ⌜ Standing places hangover at (now a) (now h) (now since) × (to ≤ places) ⌝ }
+    ensures { λ _. ⌜ Settled places hangover at (λ j. between from to j) (λ _. on) (now (a .entry)) (now (h .entry)) (now (since .entry)) (now (a .exit)) (now (h .exit)) (now (since .exit)) ⌝ }
 {
     let mut j = from;
     while j < to {

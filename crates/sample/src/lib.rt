@@ -19,7 +19,8 @@ ghost use Rattle.sample.specs.Sample.{stateAfter};
 ghost use Rattle.sample.specs.StateAfter.{Within};
 use level::Samples;
 use level::Squares;
-use level::THRESHOLDS;
+use thresholds::PLACES;
+use thresholds::Thresholds;
 
 // What counting goes by: the rate's K and I, and the offset.
 pub struct Counting {
@@ -40,32 +41,33 @@ pub struct Sums {
 // The sums and, for each threshold, the activity count a and the hangover h.
 pub struct State {
     pub sums: Sums,
-    pub a: [Samples; THRESHOLDS],
-    pub h: [u64; THRESHOLDS],
+    pub a: [Samples; PLACES],
+    pub h: [u64; PLACES],
 }
 
 impl State {
     // The state after samples in order.
-    pub fn after(self, by: Counting, xs: &[i16]) -> State
-        requires { ⌜ Within by (length (now xs)) self ⌝ }
-        ensures { λ r. ⌜ r ≡ stateAfter by self (now (xs .entry)) ⌝ }
+    pub fn after(self, by: Counting, list: Thresholds, xs: &[i16]) -> State
+        requires { ⌜ Within by list (length (now xs)) self ⌝ }
+        ensures { λ r. ⌜ r ≡ stateAfter by list self (now (xs .entry)) ⌝ }
     {
         if xs.len() == 0 {
             return self;
         }
         let before = self.sums;
         let mut moving = before.begin().step(by, xs[0]);
-        let mut band = Band::lowest().around(moving.q);
+        let count = list.count;
+        let mut band = Band::lowest(&list.at, count).around(&list.at, count, moving.q);
         let counts = self.a;
         let mut a = plain::numbers(counts);
         let mut h = self.h;
-        let mut since = [0u64; THRESHOLDS];
+        let mut since = [0u64; PLACES];
         let mut at = 0;
         while at < xs.len() {
             let run = runs::run_on(moving, by, band, xs, at);
             at = run.end;
             moving = run.last;
-            let next = band.around(moving.q);
+            let next = band.around(&list.at, count, moving.q);
             counters::cross(
                 &mut a,
                 &mut h,
@@ -77,7 +79,15 @@ impl State {
             );
             band = next;
         }
-        counters::finish(&mut a, &mut h, &mut since, band.below, at as u64, by.i);
+        counters::finish(
+            &mut a,
+            &mut h,
+            &mut since,
+            band.below,
+            count,
+            at as u64,
+            by.i,
+        );
         State {
             sums: before.end(moving, xs.len()),
             a: plain::counts(a),

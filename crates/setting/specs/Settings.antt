@@ -5,6 +5,7 @@ use lib.IntN.{ℤ, pos}
 use lib.Signed.{ltZ}
 use Rattle.level.specs.Types.{stepsOf}
 use Rattle.rate.specs.Rates.{rowOf}
+use Rattle.thresholds.specs.Lists.{builtIn}
 use Rattle.setting.specs.declared.Setting.{Setting}
 
 unfoldable pub kOf : Setting → ℕ
@@ -16,9 +17,9 @@ iOf c = rowOf (c .code) .i
 unfoldable pub dOf : Setting → ℕ
 dOf c = rowOf (c .code) .d
 
--- no offset, and the margin that P.56 names: 21635 steps, 15.9 dB
+-- no offset, the margin that P.56 names, 21635 steps or 15.9 dB, and the built-in thresholds
 abbrev pub usualSetting : (code : ℕ) → Setting
-usualSetting code = record { code = code; offset = pos 0; margin = stepsOf (pos 21635) }
+usualSetting code = record { code = code; offset = pos 0; margin = stepsOf (pos 21635); thresholds = builtIn }
 
 -- 17: a margin outside 1 to 22314 steps, of which 22314 is the most that is not above 16.4 dB
 abbrev pub leastMargin : ℤ

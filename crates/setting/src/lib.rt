@@ -7,6 +7,7 @@ pub use margin::wrong_margin;
 ghost use mathlib.Core.Path.{_≡_};
 ghost use Rattle.setting.specs.Settings.{usualSetting};
 use level::Steps;
+use thresholds::Thresholds;
 
 pub struct Setting {
     // The rate code.
@@ -15,6 +16,8 @@ pub struct Setting {
     pub offset: i16,
     // The margin M: how far the threshold is to lie below the active level that it leads to.
     pub margin: Steps,
+    // The thresholds c_j.
+    pub thresholds: Thresholds,
 }
 
 // The margin that P.56 names, 15.9 dB, in steps.
@@ -29,6 +32,7 @@ impl Setting {
             code,
             offset: 0,
             margin: Steps::of(USUAL_MARGIN),
+            thresholds: Thresholds::built_in(),
         }
     }
 }

@@ -8,6 +8,7 @@ use crate::records::{block_calls, Record};
 use crate::report::RATE;
 use crate::setting::Setting;
 use crate::tally::Tally;
+use crate::thresholds::PLACES;
 
 /// A card whose opening is accepted.
 pub struct Card {
@@ -21,12 +22,12 @@ pub struct Card {
     /// Whether E refused a call.
     pub refused: bool,
     /// What the card's meter counted.
-    pub a: [u64; 15],
+    pub a: [u64; PLACES],
 }
 
 impl Card {
     /// A card that was given nothing yet; None where the opening is to be refused.
-    fn open(setting: Setting, a: [u64; 15]) -> Option<Card> {
+    fn open(setting: Setting, a: [u64; PLACES]) -> Option<Card> {
         let rate = rate(u32::from(setting.code)).filter(|_| setting.refusal() == 0)?;
         Some(Card {
             setting,
@@ -36,6 +37,11 @@ impl Card {
             refused: false,
             a,
         })
+    }
+
+    /// The thresholds of the card's meter (the customer's request L8).
+    pub fn list(&self) -> &[u64] {
+        self.setting.thresholds.entries()
     }
 
     /// Gives the card a call, of which the samples are taken where E accepts it.
@@ -72,11 +78,12 @@ impl Card {
 
 /// The opening and the calls of records that are an opening, calls and a show.
 fn opening_and_calls(records: &[Record]) -> Option<(Setting, &[Record])> {
-    let [Record::Open(setting), calls @ .., Record::Show] = records else {
+    let [Record::Open(opening), calls @ .., Record::Show] = records else {
         return None;
     };
     let is_call = |record: &Record| matches!(record, Record::Chunk(_) | Record::Block(_));
-    calls.iter().all(is_call).then_some((*setting, calls))
+    let list = (opening.setting(), calls);
+    calls.iter().all(is_call).then_some(list)
 }
 
 /// The card of a script and of the lines that a replay program printed for it; None, with a check

@@ -1,6 +1,7 @@
 //! Wrong answers to the calls of two cards on one line, and cards that are no pair (the customer's
 //! request L7).
 
+use super::thresholds::fine;
 use super::{played, USUAL};
 use crate::block;
 use crate::cards::{cards as held_to, compared};
@@ -10,6 +11,7 @@ use crate::replay::{meter_line, replay};
 use crate::report::report;
 use crate::setting::Setting;
 use crate::tally::Tally;
+use crate::thresholds::{placed, Thresholds};
 
 /// The ways round.
 const THERE: &str = "first against second";
@@ -27,6 +29,7 @@ pub fn cards(tally: &mut Tally) {
     refused_counted(tally);
     raw_sizes(tally);
     raw_sizes_mirrored(tally);
+    lists(tally);
     no_pair(tally);
     lines(tally);
     recordings(tally);
@@ -77,12 +80,17 @@ impl Card {
     }
 }
 
-/// Checks that for two cards these checks fail, and no other.
-fn fails(tally: &mut Tally, name: &str, [first, second]: [&Card; 2], checks: &[String]) {
+/// The checks that fail for two cards.
+fn failed([first, second]: [&Card; 2]) -> Vec<String> {
     let scripts = [&first.script[..], &second.script];
     let printed = [&first.printed()[..], &second.printed()];
     let held = held_to(scripts, printed).expect("no record is bad");
-    tally.equal(name, held.tally.failed(), checks);
+    held.tally.failed().to_vec()
+}
+
+/// Checks that for two cards these checks fail, and no other.
+fn fails(tally: &mut Tally, name: &str, cards: [&Card; 2], checks: &[String]) {
+    tally.equal(name, &failed(cards)[..], checks);
 }
 
 /// A clause that breaks one way round at some j.
@@ -182,6 +190,50 @@ fn raw_sizes_mirrored(tally: &mut Tally) {
     fails(tally, "mirrored, of raw x", [&above, &below], &checks);
 }
 
+/// Cards of different lists, the built-in one and one from a quarter of an interval on, each right;
+/// and with the counts of either meter by the list of the other (the customer's request L8).
+///
+/// The envelope comes over 2^30, which is c_6 of the one and c_12 of the other, and not to the
+/// next. So the wrong meter of the built-in list counts up to its own c_12, which is the other's
+/// c_18, and the wrong one of the other counts too little up to its c_12. Both lists have the
+/// other's thresholds at 4 and at 6 and from 8 on.
+fn lists(tally: &mut Tally) {
+    let fine = Setting {
+        thresholds: Thresholds::of(&fine()),
+        ..USUAL
+    };
+    let [usual, own] = [USUAL, fine].map(|setting| Card::of_chunk(setting, &[100; 248]));
+    fails(tally, "lists that differ", [&usual, &own], &[]);
+    fails(tally, "lists that differ", [&own, &usual], &[]);
+    let by_other = |card: &Card, other: &Card| {
+        let a = placed(&other.meter.a[card.meter.places()]);
+        card.showing(Meter {
+            a,
+            ..card.meter.clone()
+        })
+    };
+    let both_have = |j: usize| j == 4 || j == 6 || j >= 8;
+    let (mut more, mut less) = (Vec::new(), Vec::new());
+    for j in 4..19 {
+        more.extend(both_have(j).then(|| at(THERE, j, EXCESS)));
+        more.push(at(THERE, j, APART));
+    }
+    for j in 0..13 {
+        less.push(at(THERE, j, RAISED));
+        less.extend(both_have(j).then(|| at(THERE, j, EXCESS)));
+        less.extend((j >= 1).then(|| at(THERE, j, APART)));
+    }
+    let wrong = by_other(&usual, &own);
+    fails(tally, "the first's by the second's", [&wrong, &own], &more);
+    let wrong = by_other(&own, &usual);
+    fails(
+        tally,
+        "the second's by the first's",
+        [&usual, &wrong],
+        &less,
+    );
+}
+
 /// Cards that took more samples than the other, that are of another rate, or of another offset:
 /// with one of them there is no pair.
 fn no_pair(tally: &mut Tally) {
@@ -222,7 +274,7 @@ fn lines(tally: &mut Tally) {
     };
     let opened = |setting| Card::of_chunk(setting, &[100]).script;
     let margin = Setting { margin: 0, ..USUAL };
-    let reported = [Record::Open(USUAL), Record::Report, Record::Show];
+    let reported = [Record::open(USUAL), Record::Report, Record::Show];
     let rows = [
         (opened(Setting::usual(4)), "an opening to accept"),
         (opened(margin), "an opening to accept"),

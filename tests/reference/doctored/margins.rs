@@ -58,7 +58,7 @@ fn openings(tally: &mut Tally) {
             margin,
             ..USUAL
         };
-        Record::Open(setting).write(&mut script);
+        Record::open(setting).write(&mut script);
         for r in [0, 1, 2, 17] {
             let agreed = agrees(&script, &format!("open {r}")).expect("no record is bad");
             let name = format!("open {r} for code {code}, margin {margin}");
@@ -150,7 +150,7 @@ fn meters(tally: &mut Tally, list: &List) {
 fn values(tally: &mut Tally, list: &List) {
     let shown = meter_line(&list.meter);
     let less = shown.replace("meter 1 0 20000 ", "meter 1 0 ");
-    list.breaks_shown(tally, &less, &["39 values", "a meter shown before it"]);
+    list.breaks_shown(tally, &less, &["82 values", "a meter shown before it"]);
     let exchanged = shown.replace("meter 1 0 20000 ", "meter 1 20000 0 ");
     list.breaks_shown(tally, &exchanged, &[&["offset"][..], &LOST].concat());
     let reported = report_line(&list.meter.report());

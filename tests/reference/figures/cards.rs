@@ -5,7 +5,7 @@ use crate::block;
 use crate::cards::{cards as held_to, compared, Held};
 use crate::exact::Exact;
 use crate::generate::generate;
-use crate::meter::{c, Meter};
+use crate::meter::Meter;
 use crate::noise::noisy;
 use crate::rate::RATES;
 use crate::records::{script, Record};
@@ -34,7 +34,7 @@ pub fn cards(tally: &mut Tally) {
 
 /// A script of an opening, calls and a show.
 fn card(setting: Setting, calls: Vec<Record>) -> Vec<u8> {
-    let opening = [Record::Open(setting)];
+    let opening = [Record::open(setting)];
     let records = opening.into_iter().chain(calls).chain([Record::Show]);
     script(&records.collect::<Vec<_>>())
 }
@@ -116,7 +116,7 @@ fn without_D(tally: &mut Tally) {
     row(tally, "22 and ones", [&card, &card], [0, 1, 0, 700], &facts);
     let mut exact = Exact::open(&RATES[0], 0);
     exact.chunk(&samples);
-    let counts = [0, 1, 43].map(|units| exact.count(c(0) + units));
+    let counts = [0, 1, 43].map(|units| exact.count((1 << 24) + units));
     tally.equal("22 and ones, E's counts", counts, [60, 0, 0]);
     let (meter, _) = Meter::open(USUAL).0.chunk(&samples);
     tally.equal("22 and ones, P", meter.P, 1 << 24);

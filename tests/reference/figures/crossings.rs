@@ -50,7 +50,7 @@ fn pair(tally: &mut Tally) {
     let found = told(fresh, &[9126, 11705]);
     tally.equal("crossed by the pair", found.as_deref(), Some(lines));
     let apart = [
-        Record::Open(Setting::usual(1)),
+        Record::open(Setting::usual(1)),
         Record::Chunk(vec![9126]),
         Record::Chunk(vec![11705]),
     ];

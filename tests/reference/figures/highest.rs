@@ -30,7 +30,7 @@ fn row(tally: &mut Tally, name: &str, meter: Meter, L: i64, crossings: &[Crossin
         report_with(&meter, [L, A, C, F], lower, upper, T)
     };
     let expected: Vec<_> = crossings.iter().map(at).collect();
-    let reports = (0..15).filter_map(|j| meter.report_at(j));
+    let reports = meter.places().filter_map(|j| meter.report_at(j));
     tally.equal(name, reports.collect(), expected.clone());
     let last = expected.last().cloned();
     tally.equal(&format!("{name}, used"), meter.report().ok(), last);
@@ -139,7 +139,7 @@ fn none(tally: &mut Tally) {
 fn nothing_chosen(tally: &mut Tally) {
     let found = chosen(&script(&[
         Record::Report,
-        Record::Open(Setting::usual(2)),
+        Record::open(Setting::usual(2)),
         Record::Report,
     ]));
     tally.equal("chosen for refusals", found.as_deref(), Some(""));

@@ -13,6 +13,7 @@ use crate::records::{script, Record};
 use crate::setting::{marked, Setting, USUAL_MARGIN};
 use crate::speech::voice;
 use crate::tally::Tally;
+use crate::thresholds::placed;
 
 /// What a report at a margin has: the margin, A, C and F, the lower and the upper threshold, T and
 /// the mark.
@@ -35,9 +36,9 @@ pub fn margins(tally: &mut Tally) {
 /// A code and a margin with an offset, which has no part in this.
 fn setting(code: u8, margin: i64) -> Setting {
     Setting {
-        code,
         offset: 300,
         margin,
+        ..Setting::usual(code)
     }
 }
 
@@ -47,7 +48,7 @@ fn openings(tally: &mut Tally) {
     for margin in [1, 2, 20954, 20955, 21635, 22313, 22314] {
         let fresh = Meter {
             setting: setting(2, margin),
-            h: [1600; 15],
+            h: placed(&[1600; 15]),
             ..Meter::zero()
         };
         let name = format!("opened with {margin}");
@@ -204,10 +205,10 @@ fn lines(tally: &mut Tally) {
         ..level.clone()
     };
     let records = script(&[
-        Record::Open(setting(2, 20955)),
+        Record::open(setting(2, 20955)),
         Record::Report,
-        Record::Open(setting(2, 0)),
-        Record::Open(setting(4, 0)),
+        Record::open(setting(2, 0)),
+        Record::open(setting(4, 0)),
         Record::Load(level.at_margin(20954)),
         Record::Report,
         Record::Load(level.at_margin(-1)),

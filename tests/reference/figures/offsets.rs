@@ -8,6 +8,7 @@ use crate::rate::RATES;
 use crate::setting::Setting;
 use crate::speech::voice;
 use crate::tally::Tally;
+use crate::thresholds::{placed, Thresholds};
 
 /// Offsets at the ends of the range, next to none, and in between.
 const OFFSETS: [i16; 7] = [-32768, -20000, -1, 0, 1, 300, 32767];
@@ -37,8 +38,9 @@ fn openings(tally: &mut Tally) {
                 code: 2,
                 offset,
                 margin: 21635,
+                thresholds: Thresholds::BUILT_IN,
             },
-            h: [1600; 15],
+            h: placed(&[1600; 15]),
             ..Meter::zero()
         };
         tally.equal("fresh", Meter::open(setting(2, offset)), (fresh, 0));
@@ -111,7 +113,7 @@ fn loudest(tally: &mut Tally) {
     let meter = Meter {
         n: MOST_SAMPLES,
         sq: 1 << 80,
-        a: [MOST_SAMPLES; 15],
+        a: placed(&[MOST_SAMPLES; 15]),
         ..Meter::open(setting(2, 32767)).0
     };
     let report = report_with(&meter, [131072, 131072, 109437, 0], 13, 14, 10000);

@@ -39,7 +39,11 @@ fn short(tally: &mut Tally) {
     let block = block::make(2, 0, &[32767]);
     let recording = [&block[..], &block[..3]].concat();
     let lines = replay(&measurement::recorded(&RATES[1], &recording));
-    let expected = "open 0\nblock 0\nblock 4\nreport 14\n\
-                    meter 2 0 21635 1 32767 0 1073676289 2285825920 9504509 ";
-    tally.holds("a short block recorded", lines.starts_with(expected));
+    let list = (24..39).map(|k| format!("{} ", 1u64 << k));
+    let list = list.collect::<String>() + &"0 ".repeat(9);
+    let expected = format!(
+        "open 0\nblock 0\nblock 4\nreport 14\n\
+         meter 2 0 21635 15 {list}1 32767 0 1073676289 2285825920 9504509 "
+    );
+    tally.holds("a short block recorded", lines.starts_with(&expected));
 }

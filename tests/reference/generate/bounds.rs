@@ -3,15 +3,20 @@
 use super::meters::{falling, most_squares, plausible, MOST_ENVELOPE};
 use super::random::Random;
 use super::settings::{setting, REFUSED_MARGINS};
+use super::spacing::{edges, loading, longer, of_wrong_end, of_wrong_rise};
 use crate::meter::{Meter, MOST_SAMPLES};
 use crate::rate::rate;
 use crate::setting::{LEAST_MARGIN, MOST_MARGIN};
+use crate::thresholds::{placed, Thresholds, PLACES};
 
 /// Meters at and just past each bound of refusal 2.
 pub fn bounds(random: &mut Random, code: u8) -> Vec<Meter> {
     let mut meters = codes(random, code);
     meters.extend(offsets(random, code));
     meters.extend(margins(random, code));
+    meters.extend(lengths(random, code));
+    meters.extend(lists(random, code));
+    meters.extend(past_end(random, code));
     meters.extend(totals(random, code));
     meters.extend(full_totals(random, code));
     meters.extend(squares_of_two_words(random, code));
@@ -43,7 +48,7 @@ fn offsets(random: &mut Random, code: u8) -> Vec<Meter> {
             sq: most_squares(meter.n),
             P: MOST_ENVELOPE,
             Q: MOST_ENVELOPE,
-            a: [meter.n; 15],
+            a: meter.all(meter.n),
             ..meter
         });
         meters.push(meter);
@@ -56,6 +61,80 @@ fn margins(random: &mut Random, code: u8) -> Vec<Meter> {
     let with = |margin| plausible(random, code).at_margin(margin);
     let margins = [LEAST_MARGIN, MOST_MARGIN].into_iter();
     margins.chain(REFUSED_MARGINS).map(with).collect()
+}
+
+/// A meter with this list and nothing past its end, and with hangovers that have run out within it.
+fn with_list(random: &mut Random, code: u8, thresholds: Thresholds) -> Meter {
+    let I = rate(u32::from(code)).expect("a named code").I;
+    let meter = plausible(random, code).at_thresholds(thresholds);
+    let a = falling(random, meter.n, meter.places().len());
+    let h = meter.all(I);
+    Meter { a, h, ..meter }
+}
+
+/// Lengths in the range, just outside it and far, on lists that have as many thresholds where there
+/// are places, by doubling up to 2^39.
+fn lengths(random: &mut Random, code: u8) -> Vec<Meter> {
+    let with = |length: u64| {
+        let count = length.min(PLACES as u64);
+        let spare = count.saturating_sub(18);
+        let ones = (0..spare).map(|j| (1 << 22) + j);
+        let doubled = (spare..count).map(|j| 1 << (22 + j - spare));
+        let places: Vec<u64> = ones.chain(doubled).collect();
+        let thresholds = Thresholds {
+            length,
+            places: placed(&places),
+        };
+        with_list(random, code, thresholds)
+    };
+    let far = [(1 << 32) + 15, (1 << 63) + 15, u64::MAX];
+    let lengths = [0, 1, 12, 13, 14, 15, 16, 17, 18, 23, 24, 25, 256 + 15];
+    lengths.into_iter().chain(far).map(with).collect()
+}
+
+/// Lists that load, at every edge, and ones that do not for their rise or for an end.
+fn lists(random: &mut Random, code: u8) -> Vec<Meter> {
+    let mut lists = edges(random);
+    for _ in 0..6 {
+        lists.push(of_wrong_rise(random));
+        lists.push(of_wrong_end(random));
+    }
+    let with = |list: Vec<u64>| with_list(random, code, Thresholds::of(&list));
+    lists.into_iter().map(with).collect()
+}
+
+/// Something past the end of a list among thresholds, counts or hangovers, right past it or in the
+/// last place: as it would go on within the list, or else.
+fn past_end(random: &mut Random, code: u8) -> Vec<Meter> {
+    let mut meters = Vec::new();
+    for kind in 0..3 {
+        for last in [false, true] {
+            let list = shorter(random);
+            let mut meter = with_list(random, code, list);
+            let end = meter.places().len();
+            let place = if last { PLACES - 1 } else { end };
+            let places = match kind {
+                0 => &mut meter.setting.thresholds.places,
+                1 => &mut meter.a,
+                _ => &mut meter.h,
+            };
+            let (before, any) = (places[end - 1], random.next());
+            let number = random.pick(&[1, before, 2 * before, any]);
+            places[place] = number.max(1);
+            meters.push(meter);
+        }
+    }
+    meters
+}
+
+/// A list that loads and does not fill its places.
+fn shorter(random: &mut Random) -> Thresholds {
+    let list = Thresholds::of(&loading(random));
+    if list.count() < PLACES {
+        list
+    } else {
+        Thresholds::BUILT_IN
+    }
 }
 
 /// n, s and sq.
@@ -86,12 +165,13 @@ fn totals(random: &mut Random, code: u8) -> Vec<Meter> {
         sq: u128::MAX,
         ..plausible(random, code)
     });
+    let meter = plausible(random, code);
     meters.push(Meter {
         n: 1 << 20,
         s: 0,
         sq: 1 << 64,
-        a: [1; 15],
-        ..plausible(random, code)
+        a: meter.all(1),
+        ..meter
     });
     meters
 }
@@ -127,12 +207,13 @@ fn squares_of_two_words(random: &mut Random, code: u8) -> Vec<Meter> {
     let mut meters = Vec::new();
     for n in [(1 << 32) - 1, 1 << 32, (1 << 32) + 1] {
         for more in [0, 1] {
+            let meter = plausible(random, code);
             meters.push(Meter {
                 n,
                 s: 0,
                 sq: most_squares(n) + more,
-                a: falling(random, n),
-                ..plausible(random, code)
+                a: falling(random, n, meter.places().len()),
+                ..meter
             });
         }
     }
@@ -160,7 +241,20 @@ fn envelopes(random: &mut Random, code: u8) -> Vec<Meter> {
     meters
 }
 
-/// a_j against n and against each other.
+/// A meter that refusal 2 lets pass, whose list has at least so many thresholds.
+fn of_length(random: &mut Random, code: u8, least: usize) -> Meter {
+    let list = longer(random, least as u64);
+    with_list(random, code, list)
+}
+
+/// The first numbers, so many of them, and then the others up to the end of a meter's list.
+fn stepped(meter: &Meter, first: u64, count: usize, other: u64) -> [u64; PLACES] {
+    let mut places = meter.all(other);
+    places[..count].fill(first);
+    places
+}
+
+/// a_j against n and against each other, up to the end of the list.
 fn counts(random: &mut Random, code: u8) -> Vec<Meter> {
     let mut meters = Vec::new();
     for more in [0, 1] {
@@ -169,40 +263,39 @@ fn counts(random: &mut Random, code: u8) -> Vec<Meter> {
         meters.push(meter);
         let meter = plausible(random, code);
         meters.push(Meter {
-            a: [meter.n + more; 15],
+            a: meter.all(meter.n + more),
             ..meter
         });
     }
-    for j in 0..14 {
+    for j in 1..PLACES {
         for more in [0, 1] {
-            let mut meter = plausible(random, code);
-            meter.a[..=j].fill(meter.n / 2);
-            meter.a[j + 1..].fill(meter.n / 2 + more);
-            meters.push(meter);
+            let meter = of_length(random, code, j + 1);
+            let half = meter.n / 2;
+            let a = stepped(&meter, half, j, half + more);
+            meters.push(Meter { a, ..meter });
         }
     }
     meters
 }
 
-/// h_j against I and against each other.
+/// h_j against I and against each other, up to the end of the list.
 fn hangovers(random: &mut Random, code: u8) -> Vec<Meter> {
     let I = rate(u32::from(code)).expect("a named code").I;
     let mut meters = Vec::new();
     for last in [I, I + 1, u64::MAX] {
-        meters.push(Meter {
-            h: [last; 15],
-            ..plausible(random, code)
-        });
+        let meter = plausible(random, code);
+        let h = meter.all(last);
+        meters.push(Meter { h, ..meter });
         let mut meter = plausible(random, code);
-        meter.h[14] = last;
+        let end = meter.places().len();
+        meter.h[end - 1] = last;
         meters.push(meter);
     }
-    for j in 0..14 {
+    for j in 1..PLACES {
         for more in [0, 1] {
-            let mut meter = plausible(random, code);
-            meter.h[..=j].fill(I / 2 + more);
-            meter.h[j + 1..].fill(I / 2);
-            meters.push(meter);
+            let meter = of_length(random, code, j + 1);
+            let h = stepped(&meter, I / 2 + more, j, I / 2);
+            meters.push(Meter { h, ..meter });
         }
     }
     meters
@@ -220,7 +313,7 @@ fn unstarted(random: &mut Random, code: u8) -> Vec<Meter> {
             ..fresh.clone()
         },
         Meter {
-            h: [0; 15],
+            h: [0; PLACES],
             ..fresh.clone()
         },
         Meter {

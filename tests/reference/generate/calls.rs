@@ -2,22 +2,27 @@
 
 use super::bounds::bounds;
 use super::filling::{last_blocks, last_chunks, two_words};
-use super::meters::{of_factor, plausible, tuned, wavering};
+use super::meters::{of_factor, of_level, plausible, tuned, wavering};
 use super::random::Random;
 use super::script::Script;
-use super::settings::{refused_setting, setting, MARGINS, REFUSED_MARGINS};
+use super::settings::{
+    faulty_openings, opening, refused_opening, setting, MARGINS, REFUSED_MARGINS,
+};
 use super::signals::{around, furthest, noise, placed, signal};
-use super::thresholds::{approach, targets};
+use super::spacing::edges;
+use super::thresholds::{approach, Target};
 use super::writes::{writing, CODES};
 use crate::block;
 use crate::meter::{Meter, MOST_IN_CHUNK, MOST_SAMPLES};
 use crate::percent::{difference, WHOLE};
 use crate::rate::rate;
-use crate::records::Record;
+use crate::records::{Opening, Record};
 use crate::setting::Setting;
+use crate::thresholds::Thresholds;
 
-/// A script of about so many records: openings at the bounds of the margin, the bounds of refusal 2,
-/// then calls of all kinds; and at the end each threshold met exactly and just missed.
+/// A script of about so many records: openings at the bounds of the margin and of the list, the
+/// bounds of refusal 2, then calls of all kinds; and at the end a threshold of each place met
+/// exactly and just missed.
 pub fn calls(seed: u64, count: u64) -> Vec<u8> {
     let mut script = Script::new(seed);
     let code = 1 + (seed % 3) as u8;
@@ -30,20 +35,34 @@ pub fn calls(seed: u64, count: u64) -> Vec<u8> {
     while script.records < count {
         step(&mut script);
     }
-    for target in targets() {
+    for target in Target::all() {
         brought(&mut script, target);
     }
     script.bytes
 }
 
 /// Openings with every margin at and past a bound, without a named code and with one, and what the
-/// last leaves.
+/// last leaves; then with lists at every edge, and with each choice of what is wrong.
 fn openings(script: &mut Script, named: u8) {
     for margin in MARGINS.into_iter().chain(REFUSED_MARGINS) {
         for code in [0, named] {
             let setting = setting(&mut script.random, code);
-            script.add(Record::Open(Setting { margin, ..setting }));
+            let opening = opening(&mut script.random, Setting { margin, ..setting });
+            script.add(Record::Open(opening));
         }
+        script.add(Record::Show);
+    }
+    for list in edges(&mut script.random) {
+        let thresholds = Thresholds::of(&list);
+        let setting = setting(&mut script.random, named);
+        script.add(Record::open(Setting {
+            thresholds,
+            ..setting
+        }));
+        script.add(Record::Show);
+    }
+    for opening in faulty_openings(&mut script.random, named) {
+        script.add(Record::Open(opening));
         script.add(Record::Show);
     }
 }
@@ -69,7 +88,7 @@ fn step(script: &mut Script) {
     if stuck && script.random.once_in(2) {
         return open(script);
     }
-    match script.random.below(86) {
+    match script.random.below(88) {
         0..=1 => open(script),
         2..=21 => chunk(script),
         22..=37 => sound_block(script),
@@ -88,6 +107,7 @@ fn step(script: &mut Script) {
         76 => any_percentage(script),
         77 => reported(script, wavering),
         78..=80 => write(script),
+        81..=82 => low_level(script),
         _ => small_chunks(script),
     }
 }
@@ -97,17 +117,19 @@ fn hangover(script: &Script) -> u64 {
     rate(u32::from(script.meter().setting.code)).map_or(139, |rate| rate.I)
 }
 
-/// An opening, mostly with a named code and a margin in the range, and what it leaves.
+/// An opening, mostly with a named code, a margin in the range and a list that loads, and what it
+/// leaves.
 fn open(script: &mut Script) {
     let code = script
         .random
         .pick(&[1, 1, 1, 2, 2, 2, 3, 3, 3, 0, 4, 5, 255]);
-    let setting = if script.random.once_in(6) {
-        refused_setting(&mut script.random, code)
+    let opening: Opening = if script.random.once_in(5) {
+        refused_opening(&mut script.random, code)
     } else {
-        setting(&mut script.random, code)
+        let setting = setting(&mut script.random, code);
+        opening(&mut script.random, setting)
     };
-    script.add(Record::Open(setting));
+    script.add(Record::Open(opening));
     script.add(Record::Show);
 }
 
@@ -182,11 +204,14 @@ fn bursts(script: &mut Script) {
     script.add(Record::Report);
 }
 
-/// The two samples that bring Q to a threshold exactly, together or apart.
+/// The two samples that bring Q to a threshold of the built-in list exactly, together or apart.
 fn pair(script: &mut Script) {
-    let setting = setting(&mut script.random, 1);
+    let setting = Setting {
+        thresholds: Thresholds::BUILT_IN,
+        ..setting(&mut script.random, 1)
+    };
     let pair = around(setting.offset, &[9126, 11705]);
-    script.add(Record::Open(setting));
+    script.add(Record::open(setting));
     if script.random.once_in(2) {
         script.add(Record::Chunk(pair));
     } else {
@@ -199,7 +224,7 @@ fn pair(script: &mut Script) {
 }
 
 /// A meter, and the samples that bring its envelope to a target, with none or a few after them.
-fn brought(script: &mut Script, target: u64) {
+fn brought(script: &mut Script, target: Target) {
     let code = script.random.named();
     let (meter, mut call) = approach(&mut script.random, code, target);
     script.add(Record::Load(meter));
@@ -241,6 +266,13 @@ fn percentage_edge(script: &mut Script) {
     for F in [least - 1, least, least + 1] {
         reported(script, |random, code| of_factor(random, code, F.min(0)));
     }
+}
+
+/// A report of a level at 0, just below or just above it, or further below.
+fn low_level(script: &mut Script) {
+    let any = -(script.random.between(3, 16383) as i64);
+    let level = script.random.pick(&[0, 1, -1, -2, -3, any, any, any]);
+    reported(script, |random, code| of_level(random, code, level));
 }
 
 /// A report at any F that a meter can have, mostly one too low for a T above 0.

@@ -18,7 +18,7 @@ pub struct Cut {
 /// A script that gives a card its samples: an opening, the calls and a show.
 pub fn script(setting: Setting, samples: &[i16], cut: &Cut) -> Vec<u8> {
     let mut script = Script::new(cut.seed);
-    script.add(Record::Open(setting));
+    script.add(Record::open(setting));
     let parts = parts(&mut script.random, samples, cut.calls);
     let one = script.random.below(parts.len() as u64) as usize;
     for (i, part) in parts.into_iter().enumerate() {

@@ -38,7 +38,7 @@ fn nearly_full(script: &mut Script, k: u64) -> Meter {
             n,
             s: -most as i64,
             sq: full,
-            a: [n; 15],
+            a: meter.all(n),
             ..meter
         },
         1 => Meter {

@@ -4,14 +4,16 @@ use super::random::Random;
 use super::script::Script;
 use super::settings::{self, MARGINS, REFUSED_MARGINS};
 use super::signals::{
-    around, full_scale, furthest, grazing, hum_and_exact_shout, hum_and_shout, noise_within,
+    around, full_scale, furthest, grazing, hum_and_exact_shout, hum_and_shout, noise_within, ones,
     placed, signal,
 };
+use super::spacing;
 use crate::meter::Meter;
 use crate::rate::{Rate, RATES};
-use crate::records::Record;
+use crate::records::{Opening, Record};
 use crate::setting::{Setting, USUAL_MARGIN};
 use crate::speech::voice;
+use crate::thresholds::Thresholds;
 use std::iter;
 
 /// About the most samples of a list.
@@ -20,7 +22,7 @@ const TOTAL: usize = 600;
 /// So few samples that the calls of a list take all of them, but for very few lists.
 const ALL_TAKEN: usize = 300;
 
-/// How many signals are tried for one with a level at a margin.
+/// How many signals are tried for one with some answer.
 ///
 /// About one in ninety has a level at the margins 1 and 2, and most have one at the others: that none
 /// of so many has one is no chance, but a margin at which no signal has a level.
@@ -36,12 +38,14 @@ enum Purpose {
     Speech,
     /// A level at this margin.
     Margin(i64),
+    /// This level, or, where it is none, any below 0.
+    Level(Option<i64>),
     /// Whatever comes of it.
     Any,
 }
 
 /// The purposes that have a list in their turn, beside the margins.
-const TURNS: [Purpose; 8] = [
+const TURNS: [Purpose; 12] = [
     Purpose::Refusal(12),
     Purpose::Refusal(13),
     Purpose::Refusal(14),
@@ -50,26 +54,31 @@ const TURNS: [Purpose; 8] = [
     Purpose::TwoCrossings,
     Purpose::ThreeCrossings,
     Purpose::Speech,
+    Purpose::Level(None),
+    Purpose::Level(Some(-1)),
+    Purpose::Level(Some(-2)),
+    Purpose::Level(Some(-3)),
 ];
 
 /// One list: an opening, so many calls, a show and a report; one seed in three has openings to refuse
-/// before it, each of the margins in its turn.
+/// before it, each of the margins and each kind of thresholds in its turn.
 pub fn list(seed: u64, count: u64) -> Vec<u8> {
     let mut script = Script::new(seed);
     let purpose = purpose(seed);
     let rate = rate(&mut script.random, purpose);
     let usual = Setting {
         offset: offset(&mut script.random, seed),
+        thresholds: thresholds(&mut script.random, seed, purpose),
         ..Setting::usual(rate.code)
     };
-    let samples = samples(&mut script.random, rate, usual.offset, purpose);
+    let samples = samples(&mut script.random, rate, usual, purpose);
     let (meter, _) = Meter::open(usual).0.chunk(&samples);
     let margin = margin(&mut script.random, &meter, purpose);
     if seed % 3 == 2 {
-        let refused = REFUSED_MARGINS[(seed / 3) as usize % REFUSED_MARGINS.len()];
-        refused_openings(&mut script, rate.code, refused);
+        refused_openings(&mut script, rate.code, seed / 3);
     }
-    script.add(Record::Open(Setting { margin, ..usual }));
+    let opening = settings::opening(&mut script.random, Setting { margin, ..usual });
+    script.add(Record::Open(opening));
     let mut rest = &samples[..];
     for _ in 0..count {
         if script.random.once_in(4) {
@@ -102,6 +111,7 @@ fn rate(random: &mut Random, purpose: Purpose) -> &'static Rate {
         Purpose::Refusal(15)
         | Purpose::TwoCrossings
         | Purpose::ThreeCrossings
+        | Purpose::Level(_)
         | Purpose::Margin(_) => &RATES[0],
         _ => &RATES[any],
     }
@@ -116,21 +126,42 @@ fn offset(random: &mut Random, seed: u64) -> i16 {
     }
 }
 
-/// The samples of a list.
-fn samples(random: &mut Random, rate: &Rate, offset: i16, purpose: Purpose) -> Vec<i16> {
+/// The thresholds of a list: three crossings are made for the built-in ones, and levels below 0
+/// need the lowest. Where there is a level at any thresholds, each number of them is in its turn.
+fn thresholds(random: &mut Random, seed: u64, purpose: Purpose) -> Thresholds {
+    match purpose {
+        Purpose::ThreeCrossings => Thresholds::BUILT_IN,
+        Purpose::Level(_) => spacing::lowest(random),
+        Purpose::Margin(_) => spacing::of_length(random, 14 + seed as usize / 6 % 11),
+        _ => spacing::thresholds(random),
+    }
+}
+
+/// A setting without its offset.
+fn at_zero(setting: Setting) -> Setting {
+    Setting {
+        offset: 0,
+        ..setting
+    }
+}
+
+/// The samples of a list at a setting, of which the margin is still to choose.
+fn samples(random: &mut Random, rate: &Rate, setting: Setting, purpose: Purpose) -> Vec<i16> {
+    let at_zero = at_zero(setting);
     let samples = match purpose {
-        Purpose::Any => return any_samples(random, rate, offset),
+        Purpose::Any => return any_samples(random, setting),
         Purpose::Refusal(12) => Vec::new(),
         Purpose::Refusal(13) => vec![0; TOTAL],
-        Purpose::Refusal(14) => noise_within(random, 1, TOTAL),
-        Purpose::Refusal(15) => noise_within(random, 6, ALL_TAKEN),
-        Purpose::Refusal(_) => return loud(random, offset),
+        Purpose::Refusal(14) => (0..TOTAL).map(|_| random.once_in(16).into()).collect(),
+        Purpose::Refusal(15) => too_quiet(random, at_zero),
+        Purpose::Refusal(_) => return loud(random, setting.offset),
         Purpose::TwoCrossings => hum_and_shout(random),
         Purpose::ThreeCrossings => hum_and_exact_shout(1 << random.below(8)),
         Purpose::Speech => spoken(random, rate),
-        Purpose::Margin(margin) => of_level(random, rate, margin),
+        Purpose::Margin(margin) => of_margin(random, Setting { margin, ..at_zero }),
+        Purpose::Level(level) => of_level(random, at_zero, level),
     };
-    around(offset, &samples)
+    around(setting.offset, &samples)
 }
 
 /// The margin of a list whose samples lead to this meter: for refusal 15 d_0 is just negative, and
@@ -138,38 +169,89 @@ fn samples(random: &mut Random, rate: &Rate, offset: i16, purpose: Purpose) -> V
 fn margin(random: &mut Random, meter: &Meter, purpose: Purpose) -> i64 {
     match purpose {
         Purpose::Margin(margin) => margin,
+        Purpose::Level(level) => below_zero(meter, level).expect("it was tried"),
         Purpose::ThreeCrossings => USUAL_MARGIN,
         Purpose::TwoCrossings => settings::of_several(random, meter),
-        Purpose::Refusal(15) => settings::above_first(random, meter),
+        Purpose::Refusal(15) => settings::above_first(meter).expect("it was tried"),
         _ if random.once_in(2) => settings::near_crossing(random, meter),
         _ => settings::margin(random),
     }
 }
 
-/// Openings with a margin to refuse, without a named code and with one, and a call on what each
-/// leaves.
-fn refused_openings(script: &mut Script, named: u8, margin: i64) {
+/// A margin at which a meter has this level, or any below 0, where there is one.
+fn below_zero(meter: &Meter, level: Option<i64>) -> Option<i64> {
+    let any = [-6000, -4000, -3000, -2000, -1000, -500, -200];
+    let levels = level.map_or(any.to_vec(), |level| vec![level]);
+    let mut margins = levels.iter().map(|&level| settings::of_level(meter, level));
+    margins.find_map(|margin| margin)
+}
+
+/// Openings to refuse, without a named code and with one, for a margin in its turn, for a list with
+/// faults in their turn, or for both, and a call on what each leaves.
+fn refused_openings(script: &mut Script, named: u8, turn: u64) {
+    let margin = REFUSED_MARGINS[turn as usize % REFUSED_MARGINS.len()];
+    let [length, rise, end] = [0, 1, 2].map(|place| (turn % 7 + 1) >> place & 1 == 1);
+    let list = Some(spacing::with_faults(&mut script.random, length, rise, end));
     for code in [0, named] {
-        let offset = script.random.offset();
-        script.add(Record::Open(Setting {
-            code,
-            offset,
+        let right = Opening::from(settings::setting(&mut script.random, code));
+        let of_margin = Opening {
             margin,
-        }));
-        script.add(Record::Chunk(vec![1]));
+            ..right.clone()
+        };
+        let [of_list, of_both] = [&right, &of_margin].map(|opening| Opening {
+            list: list.clone(),
+            ..opening.clone()
+        });
+        let all = [right, of_margin, of_list, of_both].into_iter();
+        for opening in all.filter(|opening| opening.setting().refusal() != 0) {
+            script.add(Record::Open(opening));
+            script.add(Record::Chunk(vec![1]));
+        }
     }
 }
 
-/// A signal for which a rate has a level at a margin.
-fn of_level(random: &mut Random, rate: &Rate, margin: i64) -> Vec<i16> {
-    let (fresh, _) = Meter::open(Setting {
-        margin,
-        ..Setting::usual(rate.code)
-    });
-    let signals = iter::repeat_with(|| signal(random, rate.I, ALL_TAKEN));
-    let has_level = |samples: &Vec<i16>| fresh.chunk(samples).0.report().is_ok();
-    let found = signals.take(TRIED).find(has_level);
-    found.unwrap_or_else(|| panic!("no signal of {TRIED} has a level at margin {margin}"))
+/// The first of many signals that is of some kind.
+fn tried(
+    mut signal: impl FnMut() -> Vec<i16>,
+    of_kind: impl Fn(&[i16]) -> bool,
+    kind: &str,
+) -> Vec<i16> {
+    let mut signals = iter::repeat_with(&mut signal).take(TRIED);
+    let found = signals.find(|samples| of_kind(samples));
+    found.unwrap_or_else(|| panic!("no signal of {TRIED} has {kind}"))
+}
+
+/// The meter after samples at a setting.
+fn after(setting: Setting, samples: &[i16]) -> Meter {
+    Meter::open(setting).0.chunk(samples).0
+}
+
+/// Noise for which refusal 15 is given at some margin that is accepted.
+fn too_quiet(random: &mut Random, setting: Setting) -> Vec<i16> {
+    let signal = || {
+        let most = random.between(1, 6);
+        noise_within(random, most, ALL_TAKEN)
+    };
+    let refused = |samples: &[i16]| {
+        let meter = after(setting, samples);
+        let margin = settings::above_first(&meter);
+        margin.is_some_and(|margin| meter.at_margin(margin).report() == Err(15))
+    };
+    tried(signal, refused, "refusal 15")
+}
+
+/// Ones for which there is this level, or any below 0, at some margin.
+fn of_level(random: &mut Random, setting: Setting, level: Option<i64>) -> Vec<i16> {
+    let signal = || ones(random, RATES[0].I, ALL_TAKEN);
+    let reached = |samples: &[i16]| below_zero(&after(setting, samples), level).is_some();
+    tried(signal, reached, "such a level below 0")
+}
+
+/// A signal that has a level at a setting.
+fn of_margin(random: &mut Random, setting: Setting) -> Vec<i16> {
+    let signal = || signal(random, RATES[0].I, ALL_TAKEN);
+    let has_level = |samples: &[i16]| after(setting, samples).report().is_ok();
+    tried(signal, has_level, "a level at the margin")
 }
 
 /// A few of the loudest samples, the last of them as far from the offset as a sample can be.
@@ -188,9 +270,10 @@ fn spoken(random: &mut Random, rate: &Rate) -> Vec<i16> {
 }
 
 /// Two signals, one that takes it all, or one that grazes a threshold.
-fn any_samples(random: &mut Random, rate: &Rate, offset: i16) -> Vec<i16> {
+fn any_samples(random: &mut Random, setting: Setting) -> Vec<i16> {
+    let offset = setting.offset;
     if random.once_in(3) {
-        return around(offset, &grazing(random, rate, TOTAL));
+        return around(offset, &grazing(random, at_zero(setting), TOTAL));
     }
     let first = random.pick(&[0, TOTAL / 4, TOTAL / 2]);
     let mut samples = signal(random, RATES[0].I, first);

@@ -3,8 +3,10 @@
 use super::cuts::{script, Cut};
 use super::random::Random;
 use super::settings;
-use super::sizes::KINDS;
+use super::sizes::{Kind, KINDS};
+use super::spacing::thresholds;
 use crate::setting::Setting;
+use crate::thresholds::Thresholds;
 
 /// The most that the sizes of two cards differ by.
 const MOST_APART: u64 = 400;
@@ -32,25 +34,39 @@ pub fn card(seed: u64, count: u64, which: usize) -> Vec<u8> {
 }
 
 impl Pair {
-    /// The pair of a seed: each kind of line in its turn, at a d in its turn.
+    /// The pair of a seed: each kind of line in its turn, at a d in its turn. One time in two the
+    /// sizes are exchanged.
     fn new(random: &mut Random, seed: u64) -> Pair {
         let kind = KINDS[seed as usize % KINDS.len()];
         let d = apart(random, seed / KINDS.len() as u64) as i64;
         let rate = kind.rate(random);
-        let first = settings::setting(random, rate.code);
-        let second = Setting {
-            margin: settings::margin(random),
-            ..first
-        };
-        let mut sizes = kind.sizes(random, rate, first, d);
+        let mut settings = both(random, rate.code);
+        if let Kind::Hump = kind {
+            settings[1].thresholds = Thresholds::BUILT_IN;
+        }
+        let mut sizes = kind.sizes(random, rate, settings[1], d);
         if random.once_in(2) {
             sizes.reverse();
+            settings.reverse();
         }
+        let offset = settings[0].offset;
         Pair {
-            settings: [first, second],
-            samples: sizes.map(|sizes| placed(random, first.offset, &sizes)),
+            settings,
+            samples: sizes.map(|sizes| placed(random, offset, &sizes)),
         }
     }
+}
+
+/// What two cards are opened with: one code and one offset, and mostly margins and lists that
+/// differ.
+fn both(random: &mut Random, code: u8) -> [Setting; 2] {
+    let first = settings::setting(random, code);
+    let own = Setting {
+        margin: settings::margin(random),
+        thresholds: thresholds(random),
+        ..first
+    };
+    [first, random.pick(&[own, own, first])]
 }
 
 /// The d of a turn: of three turns in ten 0, 1 and the most.

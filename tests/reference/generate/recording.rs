@@ -16,7 +16,7 @@ const REFUSALS: [u32; 6] = [5, 6, 7, 8, 9, 10];
 /// So many blocks, one in five refused, each number in its turn; some recordings end cut short.
 pub fn recording(seed: u64, count: u64) -> Vec<u8> {
     let mut script = Script::new(seed);
-    script.add(Record::Open(Setting::usual(RATE.code)));
+    script.add(Record::open(Setting::usual(RATE.code)));
     let mut samples = samples(Random::new(script.random.next()));
     let mut turn = script.random.below(REFUSALS.len() as u64) as usize;
     let mut recording = Vec::new();

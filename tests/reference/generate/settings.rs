@@ -1,8 +1,10 @@
 //! What to open with: margins at and next to each bound, any others, and those at which a meter has
-//! some kind of crossing.
+//! some kind of crossing; each with a list of thresholds.
 
 use super::random::Random;
+use super::spacing::{self, thresholds};
 use crate::meter::Meter;
+use crate::records::Opening;
 use crate::setting::{in_range, Setting, LEAST_MARGIN, MARKED_BELOW, MOST_MARGIN, USUAL_MARGIN};
 
 /// Margins to accept: at the bounds of the range and of the mark, next to them, and the usual one.
@@ -55,21 +57,55 @@ fn refused_margin(random: &mut Random) -> i64 {
     }
 }
 
-/// A code with any offset and a margin to accept.
+/// A code with any offset, a margin to accept and a list that loads.
 pub fn setting(random: &mut Random, code: u8) -> Setting {
     Setting {
         code,
         offset: random.offset(),
         margin: margin(random),
+        thresholds: thresholds(random),
     }
 }
 
-/// The same with a margin to refuse.
-pub fn refused_setting(random: &mut Random, code: u8) -> Setting {
-    Setting {
-        margin: refused_margin(random),
-        ..setting(random, code)
+/// The opening with a setting; one time in two its list is written out, the built-in one too.
+pub fn opening(random: &mut Random, setting: Setting) -> Opening {
+    let opening = Opening::from(setting);
+    if random.once_in(2) {
+        opening.written_out()
+    } else {
+        opening
     }
+}
+
+/// An opening with a code, to refuse for its margin or, more often, for its list.
+pub fn refused_opening(random: &mut Random, code: u8) -> Opening {
+    let setting = setting(random, code);
+    let opening = opening(random, setting);
+    if random.once_in(3) {
+        let margin = refused_margin(random);
+        return Opening { margin, ..opening };
+    }
+    let list = Some(spacing::refused(random));
+    Opening { list, ..opening }
+}
+
+/// Openings with each choice of the numbers that apply, 1, 17, 19, 20 and 21, none of them among
+/// it.
+pub fn faulty_openings(random: &mut Random, named: u8) -> Vec<Opening> {
+    let with = |choice: u32| {
+        let fault = |place: u32| choice >> place & 1 == 1;
+        let code = if fault(0) { 4 } else { named };
+        let setting = setting(random, code);
+        let wrong = refused_margin(random);
+        let margin = if fault(1) { wrong } else { setting.margin };
+        let list = spacing::with_faults(random, fault(2), fault(3), fault(4));
+        Opening {
+            margin,
+            list: Some(list),
+            ..Opening::from(setting)
+        }
+    };
+    (0..32).map(with).collect()
 }
 
 /// The margin at which d_j of a meter is 0, where there is a d_j.
@@ -79,7 +115,7 @@ fn exact(meter: &Meter, j: usize) -> Option<i64> {
 
 /// A margin to accept at which some d_j of a meter is 0 or a step from it, where there is one.
 pub fn near_crossing(random: &mut Random, meter: &Meter) -> i64 {
-    let exact = (0..15).filter_map(|j| exact(meter, j));
+    let exact = meter.places().filter_map(|j| exact(meter, j));
     let near = exact.flat_map(|margin| margin - 1..=margin + 1);
     let near: Vec<i64> = near.filter(|&margin| in_range(margin)).collect();
     if near.is_empty() {
@@ -89,11 +125,29 @@ pub fn near_crossing(random: &mut Random, meter: &Meter) -> i64 {
     }
 }
 
+/// A margin to accept at which a meter has just this active level, where there is one near the
+/// place at which the line between two thresholds has it.
+pub fn of_level(meter: &Meter, level: i64) -> Option<i64> {
+    let point = |j: usize| {
+        let C_j = meter.setting.thresholds.C_(j)?;
+        Some((C_j + exact(meter, j)?, C_j))
+    };
+    let near = |j: usize| {
+        let ((A_lower, C_lower), (A_upper, C_upper)) = (point(j - 1)?, point(j)?);
+        let whole = (A_upper - A_lower).max(1);
+        let C = C_lower + (C_upper - C_lower) * (level - A_lower) / whole;
+        (A_lower..=A_upper).contains(&level).then_some(level - C)
+    };
+    let margins = meter.places().skip(1).filter_map(near);
+    let mut margins = margins.flat_map(|margin| margin - 3..=margin + 3);
+    let reached = |margin: i64| meter.at_margin(margin).report().map(|report| report.A);
+    margins.find(|&margin| reached(margin) == Ok(level))
+}
+
 /// The margin at which d_0 of a meter is -1, where that is one to accept.
-pub fn above_first(random: &mut Random, meter: &Meter) -> i64 {
+pub fn above_first(meter: &Meter) -> Option<i64> {
     let above = exact(meter, 0).map(|margin| margin + 1);
-    let above = above.filter(|&margin| in_range(margin));
-    above.unwrap_or_else(|| margin(random))
+    above.filter(|&margin| in_range(margin))
 }
 
 /// A margin to accept at which a meter has several crossings, where one of many tried is such.

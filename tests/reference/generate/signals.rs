@@ -1,8 +1,7 @@
 //! Signals to measure.
 
 use super::random::Random;
-use crate::meter::{c, Meter};
-use crate::rate::Rate;
+use crate::meter::Meter;
 use crate::setting::Setting;
 
 /// A signal of some kind; its pauses outlast a hangover of I samples.
@@ -105,6 +104,22 @@ fn settling(random: &mut Random, length: usize) -> Vec<i16> {
         .collect()
 }
 
+/// So quiet that its level is below 0: ones, few or many of them, with pauses that outlast a
+/// hangover of I samples.
+pub fn ones(random: &mut Random, I: u64, length: usize) -> Vec<i16> {
+    let mut samples = Vec::new();
+    while samples.len() < length {
+        let one_in = random.fraction_between(1.0, 4.0);
+        let burst = random.between(I, 2 * I);
+        let once = |_| random.fraction_between(0.0, one_in) < 1.0;
+        samples.extend((0..burst).map(once).map(i16::from));
+        let pause = random.pick(&[0, 2 * I]);
+        samples.extend(vec![0; pause as usize]);
+    }
+    samples.truncate(length);
+    samples
+}
+
 /// Steady hum that ends in a shout, for which code 1 has a crossing each.
 pub fn hum_and_shout(random: &mut Random) -> Vec<i16> {
     let unit = 1 << random.below(10);
@@ -121,16 +136,18 @@ pub fn hum_and_exact_shout(unit: i16) -> Vec<i16> {
     samples.into_iter().map(|x| unit * x).collect()
 }
 
-/// Noise, a kick that brings Q to within a few units of a threshold not reached before, silence.
-pub fn grazing(random: &mut Random, rate: &Rate, length: usize) -> Vec<i16> {
+/// Noise, a kick that brings Q to within a few units of a threshold not reached before, silence;
+/// the setting has no offset.
+pub fn grazing(random: &mut Random, setting: Setting, length: usize) -> Vec<i16> {
     let start = random.between(60, 200) as usize;
     let most = 1 << random.between(0, 10);
     let mut samples = noise_within(random, most, start);
-    let (meter, _) = Meter::open(Setting::usual(rate.code)).0.chunk(&samples);
-    let unreached = (0..15).find(|&j| meter.a[j] == 0);
-    let j = unreached.expect("quiet noise leaves thresholds unreached");
-    let target = c(j) - 16 + random.below(24);
-    let kicks = (0..20000).map(|_| kick(random, &meter, c(j), target));
+    let (meter, _) = Meter::open(setting).0.chunk(&samples);
+    let mut thresholds = setting.thresholds.entries().iter().zip(meter.a);
+    let unreached = thresholds.find(|(_, a_j)| *a_j == 0);
+    let (&c_j, _) = unreached.expect("quiet noise leaves thresholds unreached");
+    let target = c_j - 16 + random.below(24);
+    let kicks = (0..20000).map(|_| kick(random, &meter, c_j, target));
     let nearest = kicks.min_by_key(|&(distance, _)| distance);
     samples.extend(nearest.expect("there are kicks").1);
     samples.resize(length, 0);

@@ -5,6 +5,7 @@ use super::random::Random;
 use super::signals::{bursts, furthest, placed, signal};
 use crate::rate::{Rate, RATES};
 use crate::setting::Setting;
+use crate::thresholds::Thresholds;
 
 /// The sizes of a card's samples.
 pub type Sizes = Vec<i64>;
@@ -37,14 +38,15 @@ impl Kind {
         }
     }
 
-    /// The sizes of both cards at a setting, d or less apart.
+    /// The sizes of both cards, d or less apart, the second at this setting.
     pub fn sizes(self, random: &mut Random, rate: &Rate, setting: Setting, d: i64) -> [Sizes; 2] {
         let I = random.pick(&[RATES[0].I, rate.I]);
         let length = random.between(200, 1000) as usize;
+        let threshold = any_threshold(random, &setting.thresholds);
         let second = match self {
-            Kind::Steady => return steady(random, d),
+            Kind::Steady => return steady(random, threshold, d),
             Kind::Hump => return hump(random, rate, d),
-            Kind::Threshold => near_threshold(random, length),
+            Kind::Threshold => near_threshold(random, threshold, length),
             Kind::Bursts => sizes(0, &bursts(random, I, 2 * length)),
             Kind::Any => {
                 let samples = signal(random, I, length);
@@ -81,16 +83,23 @@ fn less(sizes: &[i64], d: i64) -> Sizes {
     sizes.iter().map(|size| size - d).collect()
 }
 
-/// Constant 2^j + d and constant 2^j, for so long that at code 1 either envelope comes to less than
-/// an interval under its constant, and never over it.
-fn steady(random: &mut Random, d: i64) -> [Sizes; 2] {
+/// The whole intervals of a threshold, up to 16384 of them.
+fn any_threshold(random: &mut Random, thresholds: &Thresholds) -> i64 {
+    let entries = thresholds.entries().iter().copied();
+    let low: Vec<u64> = entries.filter(|&c_j| c_j <= 1 << 38).collect();
+    (random.pick(&low) >> 24) as i64
+}
+
+/// A threshold's whole intervals and d more, and these without d, for so long that at code 1 either
+/// envelope comes to less than an interval under its constant, and never over it.
+fn steady(random: &mut Random, threshold: i64, d: i64) -> [Sizes; 2] {
     let length = random.between(350, 450) as usize;
-    let first = vec![(1 << random.below(15)) + d; length];
+    let first = vec![threshold + d; length];
     let second = less(&first, d);
     [first, second]
 }
 
-/// A hump and then constant 2^j + d, and the same less d.
+/// A hump and then constant 2^j + d, and the same less d, for the built-in list.
 ///
 /// Right after the hump p is just above the constant and q below it: q is over it from some far
 /// sample on, by ever less, and stays. A rounded envelope has come to rest under it by then. With k
@@ -113,8 +122,8 @@ fn hump(random: &mut Random, rate: &Rate, d: i64) -> [Sizes; 2] {
 }
 
 /// Noise around a threshold, as large as it or smaller.
-fn near_threshold(random: &mut Random, length: usize) -> Sizes {
-    let threshold: i64 = 1 << random.below(15);
+fn near_threshold(random: &mut Random, threshold: i64, length: usize) -> Sizes {
+    let threshold = threshold.max(1);
     let most = threshold as u64 >> random.below(4);
     let near = (0..length).map(|_| threshold + i64::from(random.sample(most)));
     near.collect()

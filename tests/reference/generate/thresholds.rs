@@ -3,22 +3,39 @@
 use super::meters::{plausible, MOST_ENVELOPE};
 use super::random::Random;
 use super::signals::{around, noise_within};
-use crate::meter::{c, Meter};
+use super::spacing::longer;
+use crate::meter::Meter;
 use crate::rate::rate;
+use crate::thresholds::PLACES;
 
-/// Where to bring the envelope: each threshold, and the last value under it.
-pub fn targets() -> impl Iterator<Item = u64> {
-    (0..15).flat_map(|j| [c(j), c(j) - 1])
+/// Where to bring the envelope: to a place of a meter's list, so many units under it.
+#[derive(Clone, Copy)]
+pub struct Target {
+    place: usize,
+    under: u64,
+}
+
+impl Target {
+    /// The threshold of each place that a list can have, and the last value under it.
+    pub fn all() -> impl Iterator<Item = Target> {
+        let both = |place| [0, 1].map(|under| Target { place, under });
+        (0..PLACES).flat_map(both)
+    }
 }
 
 /// A meter that refusal 2 lets pass, and one to four samples, the last of which brings Q to a target
 /// exactly, from below or from above.
-pub fn approach(random: &mut Random, code: u8, target: u64) -> (Meter, Vec<i16>) {
+pub fn approach(random: &mut Random, code: u8, target: Target) -> (Meter, Vec<i16>) {
+    let list = longer(random, target.place as u64 + 1);
+    let target = list.places[target.place] - target.under;
     let length = random.between(1, 4);
     let most = most_input(random, code, target, length);
+    let meter = plausible(random, code).at_thresholds(list);
     let meter = Meter {
         P: random.between(0, most),
-        ..plausible(random, code)
+        a: meter.all(meter.n / 2),
+        h: meter.all(1),
+        ..meter
     };
     let sizes = noise_within(random, (most >> 24).min(32768), length as usize);
     let samples = around(meter.setting.offset, &sizes);

@@ -3,7 +3,6 @@ use mathlib.Core.Path.{_≡_}
 use Prim.Native.Nat.{ℕ, _^_, _≤_, _<_}
 use lib.IntN.{ℤ, pos, natAbs, _-ℤ_}
 use Rattle.level.specs.Logarithm.{lev}
-use Rattle.level.specs.Types.{thresholds}
 use Rattle.crossing.specs.Levels.{levelOfThreshold}
 
 -- steps of at most 2^k, either way
@@ -36,10 +35,10 @@ abbrev pub IsLevel : (S : ℤ) (n : ℕ) (r : ℤ) → Type 0
 IsLevel S n r = Sized 21 (levelOver S n) r
 
 -- the same of a difference at a threshold, for a count
-pub record Placed (M S : ℤ) (n j : ℕ) : Type 0 where
+pub record Placed (M S : ℤ) (n c : ℕ) : Type 0 where
   pub margin : InRange M
   pub over : OverCount S n
-  pub place : j < thresholds
+  pub threshold : 1 ≤ c
 
-abbrev pub IsExcess : (M S : ℤ) (n j : ℕ) (r : ℤ) → Type 0
-IsExcess M S n j r = Sized 22 (levelOver S n -ℤ levelOfThreshold j -ℤ M) r
+abbrev pub IsExcess : (M S : ℤ) (n c : ℕ) (r : ℤ) → Type 0
+IsExcess M S n c r = Sized 22 (levelOver S n -ℤ levelOfThreshold c -ℤ M) r

@@ -1,141 +1,133 @@
--- The invariant: no counter below j is impossible.
+-- The invariant: no counter below j is impossible, and the counter before j is carried along, at the first place n and 0. Then comes what is past the end.
 use borrow.Author.Needs.{needs}
-use mathlib.Core.Bool.{Bool, true, false, _&&_}
-use mathlib.Core.List.{List, [], _∷_}
-use mathlib.Core.Path.{_≡_, refl, sym, ap, ap₂, _∙_}
-use Prim.Native.Nat.{ℕ, _+_, _-_, _≤_, _<_}
+use mathlib.Core.Bool.{Bool, true, false, _&&_, _||_}
+use mathlib.Core.List.{[], _∷_}
+use mathlib.Core.Path.{_≡_, refl, sym, ap, ap₂, _∙_, subst}
+use Prim.Native.Nat.{ℕ, zero, suc, _+_, _-_, _≤_, _<_, min}
+use native.Mathlib.Nat.{min-le-right}
+use native.Mathlib.Numerals.{add-one}
 use native.Mathlib.Omega.{arith}
-use borrow.Author.Tests.{ltb-true, ltb-false, le-ltb}
-use lib.Dec.{ltb}
+use borrow.Author.Tests.{ltb-false, le-ltb}
+use lib.Dec.{T, ltb}
 use lib.ListN.{getD}
-use Rattle.level.specs.declared.Samples.{Samples}
-use Rattle.level.specs.Types.{thresholds, activity}
-use Rattle.possible.specs.Inner.{NextPlace}
-use Rattle.possible.specs.Impossible.{anyOf, someBelow, longHangover, largeCount, risingCount, fallingHangover, impossibleCounter}
-use Rattle.possible.proofs.Below.{some-below, one-more}
+use Rattle.level.specs.Types.{activity}
+use Rattle.thresholds.specs.Lists.{places}
+use Rattle.thresholds.specs.Places.{someBelow}
+use Rattle.thresholds.proofs.Below.{stop, go-on, some-below, one-more}
+use Rattle.sample.specs.declared.State.{State}
+use Rattle.possible.specs.Impossible.{anyOf, longHangover, largeCount, risingCount, fallingHangover, impossibleCounter}
+use Rattle.possible.proofs.Below.{after-first, NoneOf, none-of}
 use Rattle.possible.proofs.impossible_counters.Statement.{statement}
 use Rattle.possible.proofs.impossible_counters.Tie as tie
 
--- ---- over the definitions: a counter against the one at the next place, which is its own after the last
+-- ---- over the definitions
 
-neighbours : (f : ℕ → ℕ → Bool) → ((j : ℕ) → f j j ≡ false) → (j k : ℕ) → NextPlace j k → f j k ≡ ltb (j + 1) thresholds && f j (j + 1)
-neighbours f same j k n = go (ltb (j + 1) thresholds) refl
-  where
-    go : (t : Bool) → ltb (j + 1) thresholds ≡ t → f j k ≡ t && f j (j + 1)
-    go true e = ap (f j) (n .next (ltb-true (j + 1) thresholds e))
-    go false e = ap (f j) (n .last (ltb-false (j + 1) thresholds e)) ∙ same j
+-- the count and the hangover that the counter at j is held to
+unfoldable countBefore : State → ℕ → ℕ
+countBefore m zero = m .sums .n .0
+countBefore m (suc j) = activity (m .a) j
 
-same : (x : ℕ) → ltb x x ≡ false
-same x = le-ltb x x (omega arith)
+unfoldable hangoverBefore : State → ℕ → ℕ
+hangoverBefore m zero = 0
+hangoverBefore m (suc j) = getD (m .h) j 0
 
--- the conditions at j
-wrong : (I n : ℕ) (a : List Samples) (h : List ℕ) (j : ℕ) → Bool
-wrong I n a h j =
-    anyOf
-    (ltb I (getD h j 0)
-    ∷ ltb n (activity a j)
-    ∷ (ltb (j + 1) thresholds && ltb (activity a j) (activity a (j + 1)))
-    ∷ (ltb (j + 1) thresholds && ltb (getD h (j + 1) 0) (getD h j 0))
-    ∷ [])
+-- a count above n is above the one before it, where that is not above n
+covered : (x y p q : Bool) → (p ≡ false → y ≡ false) → anyOf (x ∷ p ∷ q ∷ []) ≡ anyOf (x ∷ y ∷ p ∷ q ∷ [])
+unfolding anyOf
+covered true y p q f = refl
+covered false false p q f = refl
+covered false true true q f = refl
+covered false true false q f = absurd (subst T (f refl) tt)
 
-tests-are : (I n : ℕ) (a : List Samples) (h : List ℕ) (j k : ℕ) → NextPlace j k
-    → anyOf (ltb I (getD h j 0) ∷ ltb n (activity a j) ∷ ltb (activity a j) (activity a k) ∷ ltb (getD h k 0) (getD h j 0) ∷ []) ≡ wrong I n a h j
-unfolding wrong
-tests-are I n a h j k p =
-    ap₂ (λ (x y : Bool). anyOf (ltb I (getD h j 0) ∷ ltb n (activity a j) ∷ x ∷ y ∷ []))
-    (neighbours (λ i l. ltb (activity a i) (activity a l)) (λ i. same (activity a i)) j k p)
-    (neighbours (λ i l. ltb (getD h l 0) (getD h i 0)) (λ i. same (getD h i 0)) j k p)
+tests-are : (I : ℕ) (m : State) (j : ℕ) → countBefore m j ≤ m .sums .n .0
+    → anyOf (ltb I (getD (m .h) j 0) ∷ ltb (countBefore m j) (activity (m .a) j) ∷ ltb (getD (m .h) j 0) (hangoverBefore m j) ∷ []) ≡ impossibleCounter I m j
+unfolding impossibleCounter longHangover largeCount risingCount fallingHangover countBefore hangoverBefore anyOf
+tests-are I m zero b = ap (λ (x : Bool). anyOf (ltb I (getD (m .h) 0 0) ∷ ltb (m .sums .n .0) (activity (m .a) 0) ∷ x ∷ [])) (le-ltb (getD (m .h) 0 0) 0 (omega arith))
+tests-are I m (suc j) b =
+    covered (ltb I (getD (m .h) (suc j) 0)) (ltb (m .sums .n .0) (activity (m .a) (suc j))) (ltb (activity (m .a) j) (activity (m .a) (suc j))) (ltb (getD (m .h) (suc j) 0) (getD (m .h) j 0))
+    (λ e. le-ltb (m .sums .n .0) (activity (m .a) (suc j)) (omega (arith, b, ltb-false (activity (m .a) j) (activity (m .a) (suc j)) e)))
+    ∙ sym (ap₂ (λ (x y : Bool). anyOf (ltb I (getD (m .h) (suc j) 0) ∷ ltb (m .sums .n .0) (activity (m .a) (suc j)) ∷ x ∷ y ∷ []))
+    (after-first j (λ i. ltb (activity (m .a) i) (activity (m .a) (suc j)))) (after-first j (λ i. ltb (getD (m .h) (suc j) 0) (getD (m .h) i 0))))
 
-record Inv (I n : ℕ) (a : List Samples) (h : List ℕ) (j : ℕ) : Type 0 where
-  below : j ≤ thresholds
-  none : someBelow j (wrong I n a h) ≡ false
+record Inv (I : ℕ) (m : State) (many a h j : ℕ) : Type 0 where
+  below : j ≤ many
+  few : many ≤ places
+  count-is : a ≡ countBefore m j
+  hangover-is : h ≡ hangoverBefore m j
+  most : a ≤ m .sums .n .0
+  none : someBelow j (impossibleCounter I m) ≡ false
 
 abbrev Inv-loop : tie.InvT-loop
-Inv-loop hangover n a h j₀ j = Inv hangover n a h j
+Inv-loop count hangover state many a₀ h₀ j₀ a h j = Inv hangover state many a h j
 
 abbrev μ-loop : tie.MeasureT-loop
-μ-loop hangover n a h j₀ j = thresholds - j
+μ-loop count hangover state many a₀ h₀ j₀ a h j = many - j
 
--- ---- points of the code, and the test as the code meets it
-
-abbrev at-place : tie.After-impossible-counter Inv-loop μ-loop → tie.After-next-place Inv-loop μ-loop
-at-place c = c .before .before .before .before .before
-
-abbrev in-loop : tie.After-impossible-counter Inv-loop μ-loop → tie.In-loop Inv-loop μ-loop
-in-loop c = at-place c .before
-
-abbrev at-loop : tie.After-impossible-counter Inv-loop μ-loop → tie.At-loop Inv-loop μ-loop
-at-loop c = in-loop c .before
-
--- the meter's fields as the loop has them: I, n, a and h
-abbrev wrong-at : tie.At-loop Inv-loop μ-loop → ℕ → Bool
-wrong-at l = wrong (l .before .before .before .before .args .hangover) (l .before .before .before .count .result) (l .before .before .before .before .args .state .a) (l .before .before .before .before .args .state .h)
-
-tested : (c : tie.After-impossible-counter Inv-loop μ-loop) → c .impossible-counter .result ≡ wrong-at (at-loop c) (at-loop c .loop .j)
-tested c =
-    let l = at-loop c in
-    let s = l .before .before .before .before .args in
-    let k = at-place c .next-place .result in
-    c .impossible-counter .ensures
-    ∙ ap₂ (λ (x y : ℕ). anyOf (ltb (s .hangover) (getD (s .state .h) (l .loop .j) 0) ∷ ltb (l .before .before .before .count .result) x ∷ ltb x y ∷ ltb (getD (s .state .h) k 0) (getD (s .state .h) (l .loop .j) 0) ∷ []))
-    (c .before .before .before .count2 .ensures) (c .before .count3 .ensures)
-    ∙ tests-are _ _ _ _ (l .loop .j) k (at-place c .next-place .ensures)
-
--- what the loop tests is what the definition asks
-asked : (l : tie.At-loop Inv-loop μ-loop) → someBelow thresholds (wrong-at l) ≡ someBelow thresholds (impossibleCounter (l .before .before .before .before .args .hangover) (l .before .before .before .before .args .state))
-unfolding wrong impossibleCounter longHangover largeCount risingCount fallingHangover
-asked l =
-    let s = l .before .before .before .before .args in
-    ap (λ (n : ℕ). someBelow thresholds (wrong (s .hangover) n (s .state .a) (s .state .h))) (l .before .before .before .count .ensures)
+-- ---- as the code meets them
 
 loop-holds : tie.Need-loop-holds Inv-loop μ-loop
-unfolding someBelow
-loop-holds c = record { below = omega arith; none = refl }
+unfolding someBelow countBefore hangoverBefore
+loop-holds c = record { below = omega arith; few = subst (λ (k : ℕ). k ≤ places) (sym (c .before .before .least .ensures)) (min-le-right _ places); count-is = c .count .ensures; hangover-is = refl; most = omega (arith, c .count .ensures); none = refl }
 
--- the next place is one of them
-next-small : (j k : ℕ) → j < thresholds → NextPlace j k → k < thresholds
-next-small j k l n = go (ltb (j + 1) thresholds) refl
-  where
-    go : (t : Bool) → ltb (j + 1) thresholds ≡ t → k < thresholds
-    go true e = omega (arith, n .next (ltb-true (j + 1) thresholds e), ltb-true (j + 1) thresholds e)
-    go false e = omega (arith, n .last (ltb-false (j + 1) thresholds e))
+abbrev at-loop : tie.After-impossible-next Inv-loop μ-loop → tie.At-loop Inv-loop μ-loop
+at-loop c = c .before .before .before .before .before
 
-next-at : (c : tie.After-count2 Inv-loop μ-loop) → c .before .before .next-place .result < thresholds
-next-at c = let n = c .before .before in next-small _ _ (n .before .loop-test .taken) (n .next-place .ensures)
+abbrev wrong-at : tie.At-loop Inv-loop μ-loop → ℕ → Bool
+wrong-at l = let s = l .before .before .before .before .args in impossibleCounter (s .hangover) (s .t1)
 
-mul-count-2 : tie.Need-mul-count-2 Inv-loop μ-loop
-mul-count-2 c = record { fits = omega (arith, next-at c) }
+-- the test as the code meets it, with what is carried
+as-met : (I : ℕ) (m : State) (many a h j b : ℕ) → Inv I m many a h j → b ≡ activity (m .a) j
+    → anyOf (ltb I (getD (m .h) j 0) ∷ ltb a b ∷ ltb (getD (m .h) j 0) h ∷ []) ≡ impossibleCounter I m j
+as-met I m many a h j b i e =
+    ap₂ (λ (x y : ℕ). anyOf (ltb I (getD (m .h) j 0) ∷ ltb x y ∷ ltb (getD (m .h) j 0) h ∷ [])) (i .count-is) e
+    ∙ ap (λ (x : ℕ). anyOf (ltb I (getD (m .h) j 0) ∷ ltb (countBefore m j) (activity (m .a) j) ∷ ltb (getD (m .h) j 0) x ∷ [])) (i .hangover-is)
+    ∙ tests-are I m j (subst (λ (x : ℕ). x ≤ m .sums .n .0) (i .count-is) (i .most))
 
-array-copy-out-count-2 : tie.Need-array-copy-out-count-2 Inv-loop μ-loop
-array-copy-out-count-2 c = next-at c
+tested : (c : tie.After-impossible-next Inv-loop μ-loop) → c .impossible-next .result ≡ wrong-at (at-loop c) (at-loop c .loop .j)
+tested c =
+    let l = at-loop c .loop in
+    c .impossible-next .ensures ∙ as-met _ _ _ _ _ (l .j) _ (l .inv) (c .before .before .count2 .ensures)
 
-mul-impossible-counter-2 : tie.Need-mul-impossible-counter-2 Inv-loop μ-loop
-mul-impossible-counter-2 c = record { fits = omega (arith, next-at (c .before .before)) }
+-- a count that passed is not above n either
+passed-most : (x z : Bool) (a b n : ℕ) → anyOf (x ∷ ltb a b ∷ z ∷ []) ≡ false → a ≤ n → b ≤ n
+unfolding NoneOf
+passed-most x z a b n e l = omega (arith, ltb-false a b (none-of _ e .1 .0), l)
 
-array-read-impossible-counter-2 : tie.Need-array-read-impossible-counter-2 Inv-loop μ-loop
-array-read-impossible-counter-2 c = next-at (c .before .before)
+-- the test of all counters of the list, as the definition has it
+within : (c : tie.At-loop Inv-loop μ-loop) → let n = c .before .before .before in
+    someBelow (n .least .result) (wrong-at c) ≡ someBelow (min (n .before .args .count) places) (wrong-at c)
+within c = ap (λ (k : ℕ). someBelow k (wrong-at c)) (c .before .before .before .least .ensures)
 
 returns : tie.Need-returns Inv-loop μ-loop
 returns c =
     let t = c .before in
     let l = at-loop t in
-    sym (sym (asked l) ∙ some-below (wrong-at l) (l .loop .j) thresholds (sym (tested t) ∙ c .if1 .taken) (in-loop t .loop-test .taken))
+    stop _ _ (sym (within l) ∙ some-below (wrong-at l) (l .loop .j) _ (sym (tested t) ∙ c .if1 .taken) (t .before .before .before .before .loop-test .taken))
 
 loop-again : tie.Need-loop-again Inv-loop μ-loop
+unfolding countBefore hangoverBefore
 loop-again c =
     let t = c .before in
     let l = at-loop t in
     let i = l .loop .inv in
+    let j = l .loop .j in
+    let m = l .before .before .before .before .args .t1 in
+    let b = t .before .before .count2 in
     record {
-      below = omega (arith, in-loop t .loop-test .taken);
-      none = one-more (wrong-at l) (l .loop .j) (i .none) (sym (tested t) ∙ c .if1 .left);
+      below = omega (arith, t .before .before .before .before .loop-test .taken);
+      few = i .few;
+      count-is = b .ensures ∙ ap (countBefore m) (sym (add-one j));
+      hangover-is = ap (hangoverBefore m) (sym (add-one j));
+      most = passed-most _ _ _ (b .result) (m .sums .n .0) (sym (t .impossible-next .ensures) ∙ c .if1 .left) (i .most);
+      none = one-more (wrong-at l) j (i .none) (sym (tested t) ∙ c .if1 .left);
     }
 
 returns-2 : tie.Need-returns-2 Inv-loop μ-loop
 returns-2 c =
-    let l = c .before in
-    let e : l .loop .j ≡ thresholds = omega (arith, l .loop .inv .below, c .loop-test .left) in
-    sym (sym (asked l) ∙ ap (λ (k : ℕ). someBelow k (wrong-at l)) (sym e) ∙ l .loop .inv .none)
+    let n = c .before in
+    let l = n .before in
+    let e : l .loop .j ≡ l .before .before .before .least .result = omega (arith, l .loop .inv .below, n .loop-test .left) in
+    go-on _ _ _ (sym (within l) ∙ ap (λ (k : ℕ). someBelow k (wrong-at l)) (sym e) ∙ l .loop .inv .none) (c .filled-past .ensures)
 
 pub impossible-counters-spec : {M : Type 1} → statement M
 impossible-counters-spec =
@@ -144,21 +136,17 @@ impossible-counters-spec =
     Inv-loop
     μ-loop
     (λ c κs. search needs)
+    (λ c κs. search needs)
     loop-holds
+    (λ c. record { fits = omega (arith, c .before .loop .inv .few, c .loop-test .taken) })
+    (λ c. omega (arith, c .before .loop .inv .few, c .loop-test .taken))
     (λ c κs. search needs)
     (λ c. search needs)
     (λ c. search needs)
-    (λ c κs. search needs)
-    (λ c. search needs)
-    (λ c. search needs)
-    mul-count-2
-    array-copy-out-count-2
-    (λ c κs. search needs)
-    mul-impossible-counter-2
-    array-read-impossible-counter-2
     (λ c κs. search needs)
     returns
     (λ c. search needs)
     (λ c. search needs)
     loop-again
+    (λ c κs. search needs)
     returns-2)

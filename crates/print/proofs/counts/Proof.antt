@@ -1,17 +1,22 @@
--- The counts left fall.
+-- The counts left fall, and they are counts that there are.
 use borrow.Author.Needs.{needs}
 use mathlib.Core.Path.{_≡_}
-use Prim.Native.Nat.{_-_}
+use Prim.Native.Nat.{_-_, _≤_}
+use native.Mathlib.Nat.{min-le-right}
+use native.Mathlib.Omega.{arith}
 use lib.ListN.{length}
-use Rattle.level.specs.Types.{thresholds}
+use Rattle.thresholds.specs.Lists.{places}
 use Rattle.print.proofs.counts.Statement.{statement}
 use Rattle.print.proofs.counts.Tie as tie
 
 abbrev Inv-loop : tie.InvT-loop
-Inv-loop line₀ used a end₀ j₀ line end j = (thresholds ≡ length a) × (length line ≡ length line₀)
+Inv-loop line₀ used count a many end₀ j₀ line end j = (places ≡ length a) × (many ≤ places) × (length line ≡ length line₀)
 
 abbrev μ-loop : tie.MeasureT-loop
-μ-loop line₀ used a end₀ j₀ line end j = thresholds - j
+μ-loop line₀ used count a many end₀ j₀ line end j = many - j
+
+loop-holds : tie.Need-loop-holds Inv-loop μ-loop
+loop-holds c = (search needs, omega (arith, c .least .ensures, min-le-right (c .before .before .args .count) places), search needs)
 
 pub counts-spec : {M : Type 1} → statement M
 counts-spec =
@@ -19,7 +24,8 @@ counts-spec =
     (tie.spec
     Inv-loop
     μ-loop
-    (λ c. search needs)
+    (λ c κs. search needs)
+    loop-holds
     (λ c. search needs)
     (λ c. search needs)
     (λ c κs. search needs)

@@ -10,7 +10,7 @@ abbrev Inv-loop : tie.InvT-loop
 Inv-loop line₀ used xs end₀ j₀ line end j = length line ≡ length line₀
 
 abbrev μ-loop : tie.MeasureT-loop
-μ-loop line₀ used xs end₀ j₀ line end j = 15 - j
+μ-loop line₀ used xs end₀ j₀ line end j = 24 - j
 
 pub numbers-spec : {M : Type 1} → statement M
 numbers-spec =

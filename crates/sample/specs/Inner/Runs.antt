@@ -8,14 +8,16 @@ use lib.Dec.{leb, ltb}
 use lib.IntN.{ℤ}
 use lib.ListN.{length, getD, drop}
 use Rattle.level.specs.declared.Samples.{Samples}
-use Rattle.level.specs.Types.{samplesOf, thresholds}
+use Rattle.level.specs.Types.{samplesOf}
+use Rattle.thresholds.specs.declared.Thresholds.{Thresholds}
+use Rattle.thresholds.specs.Lists.{places, thresholdOf}
 use Rattle.sample.specs.declared.Counting.{Counting}
 use Rattle.sample.specs.declared.Sums.{Sums}
 use Rattle.sample.specs.declared.State.{State}
 use Rattle.sample.specs.declared.step.Moving.{Moving}
 use Rattle.sample.specs.Activity.{counted, hung}
-use Rattle.sample.specs.Envelope.{smoothing, threshold}
-use Rattle.sample.specs.Sample.{each, hangovers, stateAfter}
+use Rattle.sample.specs.Envelope.{smoothing}
+use Rattle.sample.specs.Sample.{each, upTo, hangovers, stateAfter}
 use Rattle.sample.specs.Inner.Bands.{Clear}
 use Rattle.sample.specs.Inner.Steps.{ended, Room}
 
@@ -30,14 +32,14 @@ countOver I on (suc d) a h = counted I on (countOver I on d a h) (hangoverOver I
 
 -- the counts after a sample that left the envelope at Q
 unfoldable pub plainCounts : (c : ℕ → ℕ) (k I Q : ℕ) (a h : List ℕ) → List ℕ
-plainCounts c k I Q a h = each k (λ j. counted I (leb (c j) Q) (getD a j 0) (getD h j 0))
+plainCounts c k I Q a h = each places (upTo k (λ j. counted I (leb (c j) Q) (getD a j 0) (getD h j 0)))
 
 -- the counters at index i, where counter j stands as it was at index since_j and the envelope has been on Q's side of its threshold from there on
 unfoldable pub countsBy : (c : ℕ → ℕ) (k I Q i : ℕ) (since a h : List ℕ) → List ℕ
-countsBy c k I Q i since a h = each k (λ j. countOver I (leb (c j) Q) (i - getD since j 0) (getD a j 0) (getD h j 0))
+countsBy c k I Q i since a h = each places (upTo k (λ j. countOver I (leb (c j) Q) (i - getD since j 0) (getD a j 0) (getD h j 0)))
 
 unfoldable pub hangoversBy : (c : ℕ → ℕ) (k I Q i : ℕ) (since h : List ℕ) → List ℕ
-hangoversBy c k I Q i since h = each k (λ j. hangoverOver I (leb (c j) Q) (i - getD since j 0) (getD h j 0))
+hangoversBy c k I Q i since h = each places (upTo k (λ j. hangoverOver I (leb (c j) Q) (i - getD since j 0) (getD h j 0)))
 
 -- counters that can be settled at an index: the counts have room for the samples since
 pub record Standing (k I at : ℕ) (a h since : List ℕ) : Type 0 where
@@ -83,23 +85,23 @@ numbersOf a = map (λ (n : Samples). n .0) a
 
 pub record Numbers (a : List Samples) (r : List ℕ) : Type 0 where
   pub are : r ≡ numbersOf a
-  pub many : length r ≡ thresholds
+  pub many : length r ≡ places
 
 -- a state, from plain counts
 abbrev pub stateOf : Sums → List ℕ → List ℕ → State
 stateOf m a h = record { sums = m; a = map samplesOf a; h = h }
 
 -- the state that samples lead to, where the sums already hold the first of them and the counters do not
-unfoldable pub led : Counting → Sums → (a h : List ℕ) → List ℤ → State
-led by m a h [] = stateOf m a h
-led by m a h (x ∷ xs) =
-    stateAfter by (stateOf m (plainCounts threshold thresholds (by .i) (m .q) a h) (hangovers threshold thresholds (by .i) (m .q) h)) xs
+unfoldable pub led : Counting → Thresholds → Sums → (a h : List ℕ) → List ℤ → State
+led by t m a h [] = stateOf m a h
+led by t m a h (x ∷ xs) =
+    stateAfter by t (stateOf m (plainCounts (thresholdOf t) (t .count) (by .i) (m .q) a h) (hangovers (thresholdOf t) (t .count) (by .i) (m .q) h)) xs
 
 -- the same of all samples xs: the sums were b before them, those up to index i, the one there among them, left m, and the counters stand for an
 -- envelope Q at that index
-abbrev pub ledBy : Counting → (b : Sums) → Moving → (Q i : ℕ) (since a h : List ℕ) → List ℤ → State
-ledBy by b m Q i since a h xs =
-    led by (ended b m (min (i + 1) (length xs))) (countsBy threshold thresholds (by .i) Q i since a h) (hangoversBy threshold thresholds (by .i) Q i since h) (drop i xs)
+abbrev pub ledBy : Counting → Thresholds → (b : Sums) → Moving → (Q i : ℕ) (since a h : List ℕ) → List ℤ → State
+ledBy by t b m Q i since a h xs =
+    led by t (ended b m (min (i + 1) (length xs))) (countsBy (thresholdOf t) (t .count) (by .i) Q i since a h) (hangoversBy (thresholdOf t) (t .count) (by .i) Q i since h) (drop i xs)
 
 -- what the sample at index at left, with its envelope in a band, from which a run can start
 pub record Runnable (by : Counting) (m : Moving) (low high : ℕ) (xs : List ℤ) (at : ℕ) : Type 0 where
@@ -115,5 +117,5 @@ pub record Ran (by : Counting) (low high : ℕ) (m : Moving) (xs : List ℤ) (at
   pub on : at < end
   pub within : end ≤ length xs
   pub room : Room (length xs - (end + 1)) r
-  pub same : (b : Sums) (Q : ℕ) (since a h : List ℕ) → low ≤ Q → Q < high → Clear threshold low high → ((j : ℕ) → getD since j 0 ≤ at)
-      → ledBy by b m Q at since a h xs ≡ ledBy by b r Q end since a h xs
+  pub same : (t : Thresholds) → t .count ≤ places → (b : Sums) (Q : ℕ) (since a h : List ℕ) → low ≤ Q → Q < high → Clear (thresholdOf t) (t .count) low high → ((j : ℕ) → getD since j 0 ≤ at)
+      → ledBy by t b m Q at since a h xs ≡ ledBy by t b r Q end since a h xs

@@ -1,35 +1,21 @@
 -- Each difference is small, so each fits.
 use borrow.Author.Needs.{needs}
 use mathlib.Core.Path.{_≡_, ap, ap₂, _∙_}
-use Prim.Native.Nat.{_+_, _*_, _^_, _≤_}
+use Prim.Native.Nat.{_+_, _^_, _≤_}
 use native.Mathlib.Omega.{arith}
 use lib.IntN.{ℤ, natAbs, _-ℤ_}
-use mir.Syntax.{w64}
-use mir.Facts.{toZ-pos}
 use Rattle.signed.proofs.Sizes.{abs-minus}
-use Rattle.crossing.specs.Levels.{stepsAThreshold, levelOfThreshold}
-use Rattle.crossing.proofs.Sizes.{held}
 use Rattle.crossing.proofs.steps.excess.Statement.{statement}
 use Rattle.crossing.proofs.steps.excess.Tie as tie
 
-threshold-is : (c : tie.After-of) → c .of .result .0 ≡ levelOfThreshold (c .before .before .args .j)
-unfolding levelOfThreshold
-threshold-is c =
-    let s = c .before .before in
-    held (c .of .ensures) ∙ toZ-pos w64 {n = stepsAThreshold * s .args .j} (omega (arith, s .pre .place))
-
-threshold-size : (c : tie.After-of) → natAbs (c .of .result .0) ≤ 2 ^ 17
-unfolding levelOfThreshold
-threshold-size c = omega (arith, ap natAbs (threshold-is c), c .before .before .pre .place)
-
 -- A_j − C_j
-rest-size : (c : tie.After-minus) → natAbs (c .minus .result .0) ≤ 2 ^ 21 + 2 ^ 17
+rest-size : (c : tie.After-minus) → natAbs (c .minus .result .0) ≤ 2 ^ 21 + 2 ^ 20
 rest-size c =
     let o = c .before in
-    omega (arith, ap natAbs (c .minus .ensures), abs-minus (o .before .over .result .0) (o .of .result .0), o .before .over .ensures .size, threshold-size o)
+    omega (arith, ap natAbs (c .minus .ensures), abs-minus (o .before .over .result .0) (o .of-threshold .result .0), o .before .over .ensures .size, o .of-threshold .ensures .size)
 
 minus-requires : tie.Need-minus-requires
-minus-requires c κs = record { first = omega (arith, c .before .over .ensures .size); second = omega (arith, threshold-size c) }
+minus-requires c κs = record { first = omega (arith, c .before .over .ensures .size); second = omega (arith, c .of-threshold .ensures .size) }
 
 minus-requires-2 : tie.Need-minus-requires-2
 minus-requires-2 c κs = record { first = omega (arith, rest-size c); second = omega (arith, c .before .before .before .pre .margin) }
@@ -40,7 +26,7 @@ returns c =
     let o = m .before .before in
     let M = o .before .args .margin .0 in
     record {
-      is = c .minus2 .ensures ∙ ap (λ (z : ℤ). z -ℤ M) (m .minus .ensures ∙ ap₂ _-ℤ_ (o .over .ensures .is) (threshold-is (m .before)));
+      is = c .minus2 .ensures ∙ ap (λ (z : ℤ). z -ℤ M) (m .minus .ensures ∙ ap₂ _-ℤ_ (o .over .ensures .is) (m .before .of-threshold .ensures .is));
       size = omega (arith, ap natAbs (c .minus2 .ensures), abs-minus (m .minus .result .0) M, rest-size m, o .before .pre .margin);
     }
 
@@ -48,8 +34,6 @@ pub excess-spec : {M : Type 1} → statement M
 excess-spec =
     tie.close
     (tie.spec
-    (λ c. search needs)
-    (λ c. search needs)
     (λ c κs. search needs)
     (λ c κs. search needs)
     minus-requires

@@ -1,15 +1,20 @@
 -- A meter that refusal 2 lets pass is within the bounds of a sample.
 use borrow.Author.Needs.{needs}
-use borrow.Author.Tests.{lt-ltb, le-ltb}
-use mathlib.Core.List.{[], _∷_}
-use mathlib.Core.Path.{_≡_, sym, ap, _∙_, subst}
+use borrow.Author.Tests.{lt-ltb, le-ltb, ltb-true, ltb-false}
+use mathlib.Core.Bool.{Bool, true, false}
+use mathlib.Core.List.{List, [], _∷_}
+use mathlib.Core.Path.{_≡_, refl, sym, ap, _∙_, subst}
 use Prim.Native.Nat.{ℕ, _+_, _^_, _≤_, _<_}
 use native.Mathlib.Omega.{arith}
-use lib.ListN.{length, getD}
+use lib.Dec.{ltb}
+use lib.ListN.{length, getD, length-map, List·getD-eq-default}
 use mir.Syntax.{w16}
 use mir.Val.{toZ, ofZ}
 use mir.Facts.{toZ-ofZ}
-use Rattle.level.specs.Types.{thresholds, mostSamples}
+use Rattle.level.specs.Types.{mostSamples, samplesOf, activity}
+use Rattle.level.specs.declared.Samples.{Samples}
+use Rattle.thresholds.specs.Lists.{places}
+use Rattle.thresholds.proofs.Laws.{loaded, rising}
 use Rattle.meter.proofs.Handing.{refusal, acceptance}
 use Rattle.meter.proofs.Possible.{Possible, possible}
 use Rattle.meter.specs.Calls.{handedBy, countingOf, afterSamples}
@@ -41,7 +46,7 @@ k-small : (m : Meter) → Possible m → countingOf (m .setting) .k ≤ smoothin
 unfolding countingOf kOf
 k-small m p = row-keeps (m .setting .code) (p .named) .k-high
 
-held : (m : Meter) → Possible m → (j : ℕ) → j < thresholds → getD (m .state .h) j 0 ≤ countingOf (m .setting) .i
+held : (m : Meter) → Possible m → (j : ℕ) → j < m .setting .thresholds .count → getD (m .state .h) j 0 ≤ countingOf (m .setting) .i
 unfolding countingOf
 held m p j l = p .h-max j l
 
@@ -70,16 +75,40 @@ by-is : (c : tie.After-struct-told)
     → countingOf (start-at c .args .meter .setting) ≡ countingAt (start-at c .args .rate) (toZ w16 (ofZ w16 (start-at c .args .meter .setting .offset)))
 by-is c = start-at c .pre .by-is ∙ ap (countingAt (start-at c .args .rate)) (sym (toZ-ofZ (record { sfits = c .struct-told .given .1 .0 .1 })))
 
+-- the arrays have their lengths, so past the list's end nothing is read
+a-length : (c : tie.After-struct-told) → length (start-at c .args .meter .state .a) ≡ places
+a-length c = simp length-map at (start-at c .good .0 .1 .1 .1 .0 .1 .1 .1 .0 .1 .0 .1)
+
+h-length : (c : tie.After-struct-told) → length (start-at c .args .meter .state .h) ≡ places
+h-length c = search needs
+
+nothing-past : (l : List ℕ) (n k : ℕ) → length l ≡ n → ((j : ℕ) → j < n → k ≤ j → getD l j 0 ≤ 0) → (j : ℕ) → k ≤ j → getD l j 0 ≡ 0
+nothing-past l n k e f j h = go (ltb j n) refl
+  where
+    go : (t : Bool) → ltb j n ≡ t → getD l j 0 ≡ 0
+    go true b = omega (arith, f j (ltb-true j n b) h)
+    go false b = let past : length l ≤ j = omega (arith, ltb-false j n b) in List·getD-eq-default l 0 past
+
+counted-past : (l : List Samples) (n k : ℕ) → length l ≡ n → ((j : ℕ) → j < n → k ≤ j → activity l j ≤ 0) → (j : ℕ) → k ≤ j → activity l j ≡ 0
+counted-past l n k e f j h = go (ltb j n) refl
+  where
+    go : (t : Bool) → ltb j n ≡ t → activity l j ≡ 0
+    go true b = omega (arith, f j (ltb-true j n b) h)
+    go false b = let past : length l ≤ j = omega (arith, ltb-false j n b) in ap (λ (x : Samples). x .0) (List·getD-eq-default l (samplesOf 0) past)
+
 after-requires : tie.Need-after-requires
 after-requires c κs =
     let s = start-at c in
     let m = s .args .meter in
     let p = possible m (s .pre .possible) in
-    subst (λ (by : Counting). Within by (length (s .args .xs .now)) (m .state)) (by-is c)
+    subst (λ (by : Counting). Within by (m .setting .thresholds) (length (s .args .xs .now)) (m .state)) (by-is c)
     (record {
       sums = bounded m p;
+      list = rising (m .setting .thresholds) (loaded (m .setting .thresholds) (p .list));
       a-max = p .a-max;
       h-max = held m p;
+      a-past = λ j l. counted-past (m .state .a) places _ (a-length c) (p .a-past) j l;
+      h-past = λ j l. nothing-past (m .state .h) places _ (h-length c) (p .h-past) j l;
       k-max = k-small m p;
       room = total (λ t. t ≤ mostSamples) (c .before .before .before) (c .before .before .if1 .left);
       few = omega (arith, s .pre .few);
@@ -92,7 +121,7 @@ returns-2 c =
     let m = s .args .meter in
     let xs = s .args .xs .now in
     ap (λ (st : State). refusedWith 0 (record { setting = m .setting; state = st }))
-    (c .after .ensures ∙ ap (λ (by : Counting). stateAfter by (m .state) xs) (sym (by-is (c .before))))
+    (c .after .ensures ∙ ap (λ (by : Counting). stateAfter by (m .setting .thresholds) (m .state) xs) (sym (by-is (c .before))))
     ∙ acceptance ((11, tooMany m (length xs)) ∷ []) (afterSamples m xs) m (past 11 (tooMany m (length xs)) [] (le-ltb _ _ (total (λ t. t ≤ mostSamples) (c .before .before .before .before) (c .before .before .before .if1 .left))) none)
 
 pub feed-spec : {M : Type 1} → statement M

@@ -8,12 +8,13 @@ use native.Mathlib.Nat.{pos-of-ne-zero}
 use native.Mathlib.Omega.{arith}
 use lib.Dec.{eqb}
 use Rattle.level.specs.Types.{twoWords}
+use Rattle.thresholds.proofs.Laws.{loaded, rising}
 use Rattle.crossing.specs.declared.Found.{Found}
 use Rattle.crossing.specs.declared.Found.the-variants.{At, Below, Above}
 use Rattle.crossing.specs.Inner.FindLevels.{Measured}
 use Rattle.crossing.specs.Searched.{said}
 use Rattle.meter.specs.declared.Meter.{Meter}
-use Rattle.meter.specs.Reports.{marginOf, noSamples, noSignal, noActivity}
+use Rattle.meter.specs.Reports.{marginOf, listOf, noSamples, noSignal, noActivity}
 use Rattle.meter.specs.Calls.{reportCall}
 use Rattle.meter.proofs.Finding.{handedFor, by-found}
 use Rattle.meter.proofs.Range.{margin-range}
@@ -22,18 +23,21 @@ use Rattle.meter.proofs.Possible.{possible}
 use Rattle.meter.proofs.reporting.measured.Statement.{statement}
 use Rattle.meter.proofs.reporting.measured.Tie as tie
 
-measured : (m : Meter) → Tested m → Measured (marginOf m) (m .state .sums .n .0) (twoWords (m .state .sums .sq)) (m .state .a)
+measured : (m : Meter) → Tested m → Measured (marginOf m) (m .state .sums .n .0) (twoWords (m .state .sums .sq)) (listOf m) (m .state .a)
 unfolding noSamples noSignal noActivity
 measured m t =
     let p = possible m (t .passed) in
+    let l = loaded (listOf m) (p .list) in
+    let r = rising (listOf m) l in
     record {
       margin = omega (arith, margin-range (marginOf m) (p .margin) .most);
       n-pos = pos-of-ne-zero (eqb-false _ 0 (t .n-some));
       sq-pos = pos-of-ne-zero (eqb-false _ 0 (t .sq-some));
       sq-max = omega (arith, p .sq-max, p .n-max);
+      list = record { some = r .some; few = r .few; positive = λ j h. omega (arith, l .first-least, r .rises 0 j (omega arith) h) };
       counts = record {
         some = pos-of-ne-zero (eqb-false _ 0 (t .a-some));
-        few = omega (arith, p .a-max 0 (omega arith), p .n-max);
+        few = omega (arith, p .a-max 0 (r .some), p .n-max);
         falls = p .a-falls;
       };
     }

@@ -1,39 +1,58 @@
 -- The conditions of refusal 2, in the definition's order.
 use borrow.Author.Needs.{needs}
-use mathlib.Core.Bool.{Bool, true, false, not}
+use mathlib.Core.Bool.{Bool, true, false, not, _||_}
 use mathlib.Core.List.{List, [], _∷_}
 use mathlib.Core.Option.{none, some}
-use mathlib.Core.Path.{_≡_, sym, ap, _∙_}
-use Rattle.level.specs.Types.{thresholds}
+use mathlib.Core.Path.{_≡_, refl, sym, ap, _∙_}
+use Prim.Native.Nat.{ℕ, min}
+use native.Mathlib.Nat.{min-eq-left}
 use Rattle.rate.specs.declared.Rate.{Rate}
 use Rattle.rate.specs.Rates.{named, rateOf}
 use Rattle.rate.proofs.Laws.{named-as, named-nothing, is-named, is-not-named, row-is}
+use Rattle.thresholds.specs.Lists.{places, unloadable}
+use Rattle.thresholds.specs.Places.{someBelow, someFrom}
+use Rattle.thresholds.proofs.Laws.{loaded}
 use Rattle.setting.specs.Settings.{iOf, wrongMargin}
 use Rattle.meter.specs.declared.Meter.{Meter}
 use Rattle.meter.specs.Inner.{usableRate}
 use Rattle.meter.specs.Refusals.{unnamedCode, impossible}
-use Rattle.possible.specs.Impossible.{anyOf, someBelow, impossibleSums, impossibleCounter}
-use Rattle.possible.proofs.Below.{stop, go-on, at-last}
+use Rattle.possible.specs.Impossible.{anyOf, impossibleSums, impossibleCounter, filledCounter}
+use Rattle.possible.proofs.Below.{stop, go-on}
 use Rattle.meter.proofs.usable.rate.Statement.{statement}
 use Rattle.meter.proofs.usable.rate.Tie as tie
 
 -- ---- over the definitions
 
-unusable : (m : Meter) → impossible m ≡ true → none ≡ usableRate m
+not-usable : (m : Meter) → impossible m ≡ true → none ≡ usableRate m
 unfolding usableRate
-unusable m e = sym (simp e)
+not-usable m e = sym (simp e)
 
 usable : (m : Meter) (r : Rate) → impossible m ≡ false → rateOf (m .setting .code) ≡ some r → some r ≡ usableRate m
 unfolding usableRate
 usable m r e q = sym (simp e q)
 
+-- the conditions on the counters, at an I
+counters : Meter → (I : ℕ) → List Bool
+counters m I =
+    someBelow (m .setting .thresholds .count) (impossibleCounter I (m .state))
+    ∷ someFrom (m .setting .thresholds .count) places (filledCounter (m .state))
+    ∷ []
+
+both : (x y : Bool) → x || y ≡ anyOf (x ∷ y ∷ [])
+unfolding anyOf
+both true y = refl
+both false true = refl
+both false false = refl
+
 -- the conditions after the code's own
-tests : (m : Meter) (r : Rate) {b : Bool} → rateOf (m .setting .code) ≡ some r
-    → b ≡ anyOf (wrongMargin (m .setting .margin .0) ∷ impossibleSums (m .state .sums) ∷ someBelow thresholds (impossibleCounter (r .i) (m .state)) ∷ []) → impossible m ≡ b
-unfolding impossible unnamedCode iOf
+rest : Meter → (I : ℕ) → List Bool
+rest m I = unloadable (m .setting .thresholds) ∷ wrongMargin (m .setting .margin .0) ∷ impossibleSums (m .state .sums) ∷ counters m I
+
+tests : (m : Meter) (r : Rate) {b : Bool} → rateOf (m .setting .code) ≡ some r → b ≡ anyOf (rest m (r .i)) → impossible m ≡ b
+unfolding impossible unnamedCode iOf counters rest
 tests m r e h =
     sym (go-on _ _ (ap not (is-named (m .setting .code) r e))
-    (h ∙ ap (λ (q : Rate). anyOf (wrongMargin (m .setting .margin .0) ∷ impossibleSums (m .state .sums) ∷ someBelow thresholds (impossibleCounter (q .i) (m .state)) ∷ [])) (sym (row-is (m .setting .code) r e))))
+    (h ∙ ap (λ (q : Rate). anyOf (rest m (q .i))) (sym (row-is (m .setting .code) r e))))
 
 unnamed : (m : Meter) → rateOf (m .setting .code) ≡ none → impossible m ≡ true
 unfolding impossible unnamedCode
@@ -45,56 +64,99 @@ rate-is : (c : tie.After-rate) → rateOf (c .before .before .before .args .m .s
 rate-is c = named-as _ _ _ (c .before .before .of .ensures) (c .rate .given .1)
 
 -- the meter, and each test that was passed or not, as the definition has it
-abbrev meter-at : tie.After-wrong-margin → Meter
-meter-at c = c .before .before .before .before .before .args .m
+abbrev meter-at : tie.After-unloadable → Meter
+meter-at c = c .before .before .before .before .before .before .before .before .args .m
 
-margin-test : (b : Bool) (c : tie.After-wrong-margin) → c .wrong-margin .result ≡ b → wrongMargin (meter-at c .setting .margin .0) ≡ b
+abbrev list-at : tie.After-wrong-margin → tie.After-unloadable
+list-at c = c .before .before
+
+abbrev margin-at : tie.After-impossible-sums → tie.After-wrong-margin
+margin-at c = c .before .before
+
+list-test : (b : Bool) (c : tie.After-unloadable) → c .unloadable .result ≡ b → unloadable (meter-at c .setting .thresholds) ≡ b
+list-test b c e = sym (c .unloadable .ensures) ∙ e
+
+margin-test : (b : Bool) (c : tie.After-wrong-margin) → c .wrong-margin .result ≡ b → wrongMargin (meter-at (list-at c) .setting .margin .0) ≡ b
 margin-test b c e = sym (c .wrong-margin .ensures) ∙ e
 
-sums-test : (b : Bool) (c : tie.After-impossible-sums) → c .impossible-sums .result ≡ b → impossibleSums (meter-at (c .before .before) .state .sums) ≡ b
+sums-test : (b : Bool) (c : tie.After-impossible-sums) → c .impossible-sums .result ≡ b → impossibleSums (meter-at (list-at (margin-at c)) .state .sums) ≡ b
 sums-test b c e = sym (c .impossible-sums .ensures) ∙ e
 
--- past the margin, and past the sums
-past-margin : (c : tie.After-impossible-sums) {b : Bool} (rest : List Bool) → b ≡ anyOf rest → b ≡ anyOf (wrongMargin (meter-at (c .before .before) .setting .margin .0) ∷ rest)
-past-margin c rest h = go-on _ rest (margin-test false (c .before .before) (c .before .if1 .left)) h
+-- past the list, the margin and the sums
+past-list : (c : tie.After-wrong-margin) {b : Bool} (l : List Bool) → b ≡ anyOf l → b ≡ anyOf (unloadable (meter-at (list-at c) .setting .thresholds) ∷ l)
+past-list c l h = go-on _ l (list-test false (list-at c) (c .before .if1 .left)) h
+
+past-margin : (c : tie.After-impossible-sums) {b : Bool} (l : List Bool) → b ≡ anyOf l
+    → b ≡ anyOf (unloadable (meter-at (list-at (margin-at c)) .setting .thresholds) ∷ wrongMargin (meter-at (list-at (margin-at c)) .setting .margin .0) ∷ l)
+past-margin c l h = past-list (margin-at c) _ (go-on _ l (margin-test false (margin-at c) (c .before .if2 .left)) h)
+
+abbrev started : tie.After-impossible-sums → tie.After-unloadable
+started c = list-at (margin-at c)
+
+-- where the rate was found
+abbrev found-at : tie.After-unloadable → tie.After-rate
+found-at c = c .before .before .before .before .before
+
+past-sums : (c : tie.Else3) {b : Bool} → b ≡ anyOf (counters (meter-at (started (c .before))) (found-at (started (c .before)) .rate .given .0 .0 .i))
+    → b ≡ anyOf (rest (meter-at (started (c .before))) (found-at (started (c .before)) .rate .given .0 .0 .i))
+unfolding rest
+past-sums c h = past-margin (c .before) _ (go-on _ _ (sums-test false (c .before) (c .if3 .left)) h)
+
+-- a list that loads has no more thresholds than places
+in-places : (c : tie.Else3) → let t = meter-at (started (c .before)) .setting .thresholds in min (t .count) places ≡ t .count
+in-places c =
+    let l = started (c .before) in
+    min-eq-left (loaded (meter-at l .setting .thresholds) (list-test false l (margin-at (c .before) .before .if1 .left)) .most)
+
+tested-counters : (c : tie.After-impossible-counters)
+    → c .impossible-counters .result ≡ anyOf (counters (meter-at (started (c .before .before))) (found-at (started (c .before .before)) .rate .given .0 .0 .i))
+unfolding counters
+tested-counters c =
+    let w = started (c .before .before) in
+    let m = meter-at w in
+    c .impossible-counters .ensures
+    ∙ ap (λ (k : ℕ). someBelow k (impossibleCounter (found-at w .rate .given .0 .0 .i) (m .state)) || someFrom (m .setting .thresholds .count) places (filledCounter (m .state))) (in-places (c .before))
+    ∙ both _ _
 
 returns : tie.Need-returns
-unfolding named
+unfolding named rest
 returns c =
-    let w = c .before in
-    unusable (meter-at w) (tests (meter-at w) _ (rate-is (w .before .before)) (stop _ _ (margin-test true w (c .if1 .taken))))
+    let l = c .before in
+    not-usable (meter-at l) (tests (meter-at l) _ (rate-is (found-at l)) (stop _ _ (list-test true l (c .if1 .taken))))
 
 returns-2 : tie.Need-returns-2
-unfolding named
+unfolding named rest
 returns-2 c =
-    let s = c .before in
-    let w = s .before .before in
-    unusable (meter-at w) (tests (meter-at w) _ (rate-is (w .before .before)) (past-margin s _ (stop _ _ (sums-test true s (c .if2 .taken)))))
+    let w = c .before in
+    let l = list-at w in
+    not-usable (meter-at l) (tests (meter-at l) _ (rate-is (found-at l)) (past-list w _ (stop _ _ (margin-test true w (c .if2 .taken)))))
 
 returns-3 : tie.Need-returns-3
-unfolding named
+unfolding named rest
 returns-3 c =
-    let s = c .before .before .before in
-    let w = s .before .before in
-    unusable (meter-at w)
-    (tests (meter-at w) _ (rate-is (w .before .before))
-    (past-margin s _ (go-on _ _ (sums-test false s (c .before .before .if2 .left)) (stop _ _ (sym (c .before .impossible-counters .ensures) ∙ c .if3 .taken)))))
+    let s = c .before in
+    let l = started s in
+    not-usable (meter-at l) (tests (meter-at l) _ (rate-is (found-at l)) (past-margin s _ (stop _ _ (sums-test true s (c .if3 .taken)))))
 
 returns-4 : tie.Need-returns-4
 unfolding named
 returns-4 c =
-    let s = c .before .before .before in
-    let w = s .before .before in
-    usable (meter-at w) _
-    (tests (meter-at w) _ (rate-is (w .before .before))
-    (past-margin s _ (go-on _ _ (sums-test false s (c .before .before .if2 .left)) (sym (sym (c .before .impossible-counters .ensures) ∙ c .if3 .left) ∙ at-last _))))
-    (rate-is (w .before .before))
+    let t = c .before in
+    let l = started (t .before .before) in
+    not-usable (meter-at l) (tests (meter-at l) _ (rate-is (found-at l)) (past-sums (t .before) (sym (c .if4 .taken) ∙ tested-counters t)))
 
 returns-5 : tie.Need-returns-5
 unfolding named
 returns-5 c =
+    let t = c .before in
+    let l = started (t .before .before) in
+    usable (meter-at l) _ (tests (meter-at l) _ (rate-is (found-at l)) (past-sums (t .before) (sym (c .if4 .left) ∙ tested-counters t))) (rate-is (found-at l))
+
+returns-6 : tie.Need-returns-6
+unfolding named
+returns-6 c =
     let m = c .before .before .before .args .m in
-    unusable m (unnamed m (named-nothing _ _ (c .before .before .of .ensures) (c .enum-told .given .1)))
+    not-usable m (unnamed m (named-nothing _ _ (c .before .before .of .ensures) (c .enum-told .given .1)))
 
 pub rate-spec : {M : Type 1} → statement M
 rate-spec =
@@ -108,6 +170,8 @@ rate-spec =
     returns-2
     (λ c κs. search needs)
     returns-3
-    (λ c. search needs)
+    (λ c κs. search needs)
     returns-4
-    returns-5)
+    (λ c. search needs)
+    returns-5
+    returns-6)

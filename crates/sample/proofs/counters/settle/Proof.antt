@@ -6,7 +6,7 @@ use mathlib.Core.Path.{refl}
 use Prim.Native.Nat.{ℕ, _-_, _≤_, max}
 use native.Mathlib.Omega.{arith}
 use lib.ListN.{getD}
-use Rattle.level.specs.Types.{thresholds}
+use Rattle.thresholds.specs.Lists.{places}
 use Rattle.sample.specs.Inner.Runs.{Settled, SettledAt, between}
 use Rattle.sample.proofs.Settling.{none-yet, untouched, one-more, same-places, by-places}
 use Rattle.sample.proofs.counters.settle.Statement.{statement}
@@ -18,7 +18,7 @@ record Inv (k I at from to : ℕ) (on : Bool) (a₀ h₀ s₀ a h s : List ℕ) 
   so-far : Settled k I at (λ i. between from j i) (λ _. on) a₀ h₀ s₀ a h s
 
 abbrev Inv-loop : tie.InvT-loop
-Inv-loop a₀ h₀ since₀ from to on at hangover j₀ a h since j = Inv thresholds hangover at from to on a₀ h₀ since₀ a h since j
+Inv-loop a₀ h₀ since₀ from to on at hangover j₀ a h since j = Inv places hangover at from to on a₀ h₀ since₀ a h since j
 
 abbrev μ-loop : tie.MeasureT-loop
 μ-loop a₀ h₀ since₀ from to on at hangover j₀ a h since j = to - j

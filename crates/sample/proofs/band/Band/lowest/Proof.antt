@@ -1,13 +1,15 @@
--- The first threshold is 2^24, and there is none below it.
-use mathlib.Core.Path.{refl}
-use Rattle.sample.specs.Envelope.{workedOut}
-use Rattle.sample.specs.Inner.Bands.{lowEnd, bandAt}
+-- There is a first threshold, and none below it.
+use borrow.Author.Needs.{needs}
+use mathlib.Core.Path.{refl, sym}
+use native.Mathlib.Omega.{arith}
+use Rattle.sample.specs.Inner.Bands.{lowEnd}
+use Rattle.sample.proofs.Bands.{ends-at}
 use Rattle.sample.proofs.band.Band.lowest.Statement.{statement}
 use Rattle.sample.proofs.band.Band.lowest.Tie as tie
 
 returns : tie.Need-returns
-unfolding bandAt lowEnd workedOut
-returns c = refl
+unfolding lowEnd
+returns c = record { few = omega arith; low = refl; high = sym (ends-at _ _ 0 (c .before .pre)) }
 
 pub lowest-spec : {M : Type 1} → statement M
-lowest-spec = tie.close (tie.spec returns)
+lowest-spec = tie.close (tie.spec (λ c. search needs) returns)

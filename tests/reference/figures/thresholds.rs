@@ -1,0 +1,390 @@
+//! The figures of thresholds of the customer's choosing (the customer's request L8), and what
+//! `listed` tells of scripts.
+
+use super::{handed_in, report_with};
+use crate::exact::Exact;
+use crate::listed::listed;
+use crate::meter::{Meter, Report};
+use crate::rate::RATES;
+use crate::records::{script, Opening, Record};
+use crate::setting::{marked, Setting};
+use crate::speech::finer::FINER;
+use crate::tally::Tally;
+use crate::thresholds::{placed, Thresholds};
+
+/// What a report at a margin has: the margin, L, A, C and F, the lower and the upper threshold, T.
+type Row = (i64, [i64; 4], usize, usize, u64);
+
+/// Every figure.
+pub fn thresholds(tally: &mut Tally) {
+    built_in(tally);
+    openings(tally);
+    fresh(tally);
+    levels(tally);
+    meters(tally);
+    past_end(tally);
+    samples(tally);
+    below_zero(tally);
+    shortest(tally);
+    quiet_speech(tally);
+    bounds_below_zero(tally);
+    lines(tally);
+}
+
+/// By doubling, so many thresholds from a first on.
+fn doubled(count: usize, first: u64) -> Vec<u64> {
+    (0..count).map(|j| first << j).collect()
+}
+
+/// A list with one threshold changed.
+fn changed(mut list: Vec<u64>, j: usize, threshold: u64) -> Vec<u64> {
+    list[j] = threshold;
+    list
+}
+
+/// Seven thresholds a unit apart from 2^22 on, then by doubling to 2^39: 24 in all.
+fn longest() -> Vec<u64> {
+    let close = (1 << 22)..(1 << 22) + 7;
+    close.chain(doubled(17, 1 << 23)).collect()
+}
+
+/// Code 2 with these thresholds.
+fn setting(list: &[u64]) -> Setting {
+    Setting {
+        thresholds: Thresholds::of(list),
+        ..Setting::usual(2)
+    }
+}
+
+/// The built-in list is the scope's thresholds and no more, and its levels are 8192 j.
+fn built_in(tally: &mut Tally) {
+    let list = Thresholds::BUILT_IN;
+    tally.equal("built in", list, Thresholds::of(&doubled(15, 1 << 24)));
+    for j in 0..15 {
+        tally.equal("built in, C_j", list.C_(j), Some(8192 * j as i64));
+    }
+    tally.equal("built in, past its end", list.C_(15), None);
+}
+
+/// Lists with the answer at opening: every bound and just past it, and several numbers that apply.
+fn openings(tally: &mut Tally) {
+    let (least, most) = (doubled(14, 1 << 24), doubled(18, 1 << 22));
+    let wraps = [1 << 62].into_iter().chain((0..13).map(|j| (1 << 63) + j));
+    let rows = [
+        (least.clone(), 0),
+        (most.clone(), 0),
+        (longest(), 0),
+        ([&[(1 << 24) - 1][..], &least].concat(), 0),
+        ([&least[..], &[(1 << 37) + 1]].concat(), 0),
+        (changed(most.clone(), 17, (1 << 39) - 1), 0),
+        (vec![], 19),
+        (vec![1 << 24], 19),
+        (doubled(13, 1 << 24), 19),
+        (doubled(13, 1), 19),
+        ([&longest()[..], &[1 << 39]].concat(), 19),
+        (doubled(25, 1 << 14), 19),
+        (vec![0; 65534], 19),
+        (changed(most.clone(), 9, 1 << 30), 20),
+        (changed(most.clone(), 9, (1 << 30) - 1), 20),
+        (changed(most.clone(), 1, (1 << 23) + 1), 20),
+        (changed(least.clone(), 13, (1 << 37) + 1), 20),
+        (changed(most.clone(), 0, 1 << 21), 20),
+        (vec![0; 14], 20),
+        (vec![u64::MAX; 24], 20),
+        ([&[(1 << 22) - 1][..], &most].concat(), 21),
+        (changed(least.clone(), 0, (1 << 24) + 1), 21),
+        (changed(least.clone(), 13, (1 << 37) - 1), 21),
+        ([&most[..], &[(1 << 39) + 1]].concat(), 21),
+        (doubled(14, 1), 21),
+        (doubled(24, 1 << 40), 21),
+        (wraps.collect(), 21),
+    ];
+    for (list, r) in rows {
+        let name = format!("opened with {:?}", &list[..list.len().min(30)]);
+        tally.equal(&name, Meter::open(setting(&list)).1, r);
+    }
+}
+
+/// A fresh meter keeps its list, and has hangovers up to its end; a refused opening leaves nothing.
+fn fresh(tally: &mut Tally) {
+    for list in [doubled(14, 1 << 24), doubled(18, 1 << 22), longest()] {
+        let expected = Meter {
+            setting: setting(&list),
+            h: placed(&vec![1600; list.len()]),
+            ..Meter::zero()
+        };
+        let found = Meter::open(setting(&list));
+        tally.equal("fresh with a list", found, (expected, 0));
+    }
+    let refused = Meter::open(setting(&doubled(13, 1 << 24)));
+    tally.equal("refused with 19", refused, (Meter::zero(), 19));
+    let zero = Meter::zero().setting.thresholds;
+    tally.equal(
+        "list of all zeros",
+        (zero.length, zero.places),
+        (0, [0; 24]),
+    );
+}
+
+/// C_j of single thresholds: some have the same; twice the level of 5 is less than that of 25.
+fn levels(tally: &mut Tally) {
+    let rows = [
+        (1 << 22, -16384),
+        ((1 << 22) + 1, -16384),
+        (5 << 20, -13748),
+        (3 << 21, -11592),
+        (1 << 23, -8192),
+        ((1 << 24) - 1, -2),
+        (1 << 24, 0),
+        (5 << 22, 2636),
+        (7 << 23, 14804),
+        (1 << 37, 106496),
+        ((1 << 39) - 1, 122878),
+        (1 << 39, 122880),
+    ];
+    for (c_j, C_j) in rows {
+        let found = Thresholds::of(&[c_j]).C_(0);
+        tally.equal(&format!("C_j of {c_j}"), found, Some(C_j));
+    }
+}
+
+/// Meters handed in with lists that load and that do not, each called in every way.
+fn meters(tally: &mut Tally) {
+    let lengths = [0, 13, 16, 25, (1 << 32) + 15, u64::MAX];
+    let of_length = |length| Thresholds {
+        length,
+        ..Thresholds::BUILT_IN
+    };
+    let not_loading = [
+        doubled(14, 1 << 23),
+        changed(doubled(15, 1 << 24), 7, 1 << 30),
+        changed(doubled(15, 1 << 24), 1, (1 << 25) + 1),
+        changed(doubled(14, 1 << 24), 13, (1 << 37) - 1),
+    ];
+    let lists = not_loading.iter().map(|list| Thresholds::of(list));
+    let meter = handed_in(16384, 1 << 30, &[4096; 8]);
+    for thresholds in lengths.into_iter().map(of_length).chain(lists) {
+        refused(tally, &meter.at_thresholds(thresholds));
+    }
+    for list in [doubled(14, 1 << 24), doubled(15, 1 << 24), longest()] {
+        let meter = meter.at_thresholds(Thresholds::of(&list));
+        tally.equal("a list that loads", meter.chunk(&[1]).1, 0);
+    }
+}
+
+/// Every call on a meter is refused with 2 and hands it back.
+fn refused(tally: &mut Tally, meter: &Meter) {
+    let name = format!("refused: {:?}", meter.setting.thresholds);
+    tally.equal(&name, meter.report(), Err(2));
+    tally.equal(&name, meter.chunk(&[1]), (meter.clone(), 2));
+    tally.equal(&name, meter.chunk(&[]), (meter.clone(), 2));
+    let block = crate::block::make(2, meter.n, &[1]);
+    tally.equal(&name, meter.block(&block), (meter.clone(), 2));
+}
+
+/// Something past the end is refused, wherever; neighbours there are not compared, nor is the last
+/// within the list with what is past it.
+fn past_end(tally: &mut Tally) {
+    let (fresh, _) = Meter::open(setting(&doubled(14, 1 << 24)));
+    let full = Meter {
+        n: 9,
+        a: placed(&[9; 14]),
+        ..fresh
+    };
+    tally.equal("counts to the end", full.refusal_2(), false);
+    for place in [14, 20, 23] {
+        let with = |change: &dyn Fn(&mut Meter)| {
+            let mut meter = full.clone();
+            change(&mut meter);
+            meter.refusal_2()
+        };
+        let found = [
+            with(&|meter| meter.a[place] = 1),
+            with(&|meter| meter.h[place] = 1600),
+            with(&|meter| meter.setting.thresholds.places[place] = 1 << 38),
+        ];
+        tally.equal(&format!("past the end, {place}"), found, [true; 3]);
+    }
+}
+
+/// Samples of 40, quieter ones and a pause at code 1: the meter after them at three lists, with the
+/// counts above 0 and the hangovers that have not run out.
+fn samples(tally: &mut Tally) {
+    let a = [246, 244, 232, 206, 168];
+    let finer = [246, 244, 232, 226, 219, 213, 206, 198, 189, 180, 168, 151];
+    let longer = [&[249; 7][..], &[247], &a].concat();
+    let hangovers = [&[76; 7][..], &[93, 110, 128]].concat();
+    let rows = [
+        (doubled(14, 1 << 24), &a[..], &[110, 128][..]),
+        (FINER.to_vec(), &finer, &[110, 128]),
+        (longest(), &longer, &hangovers),
+    ];
+    for (list, a, h) in rows {
+        after_samples(tally, &list, a, h);
+    }
+}
+
+/// Checks the meter after those samples.
+fn after_samples(tally: &mut Tally, list: &[u64], a: &[u64], h: &[u64]) {
+    let samples = [&[40; 30][..], &[-3; 20], &[0; 200]].concat();
+    let mut hangovers = h.to_vec();
+    hangovers.resize(list.len(), 139);
+    let setting = Setting {
+        code: 1,
+        ..setting(list)
+    };
+    let expected = Meter {
+        setting,
+        n: 250,
+        s: 1140,
+        sq: 48180,
+        P: 15273,
+        Q: 164018,
+        a: placed(a),
+        h: placed(&hangovers),
+    };
+    let found = Meter::open(setting).0.chunk(&samples);
+    let name = format!("samples at {} thresholds", list.len());
+    tally.equal(&name, found, (expected, 0));
+}
+
+/// Checks the reports of a meter with a list at margins.
+fn row(tally: &mut Tally, name: &str, meter: &Meter, list: &[u64], rows: &[Row]) {
+    for &(margin, levels, lower, upper, T) in rows {
+        let meter = meter.at_thresholds(Thresholds::of(list)).at_margin(margin);
+        let report = Report {
+            mark: marked(margin),
+            ..report_with(&meter, levels, lower, upper, T)
+        };
+        let name = format!("{name} at margin {margin}");
+        tally.equal(&name, meter.report(), Ok(report));
+    }
+}
+
+/// Levels at 0, just below and further below, down to the lowest there is, at a threshold and
+/// between two; and one step less than the lowest.
+fn below_zero(tally: &mut Tally) {
+    let list = doubled(18, 1 << 22);
+    let at_first = [
+        (8192, 8191, (16383, [-1, -1, -16384, 0])),
+        (8192, 8190, (16382, [-2, -2, -16384, 0])),
+        (8192, 8189, (16381, [-3, -3, -16384, 0])),
+        (4096, 4096, (16384, [0, 0, -16384, 0])),
+        (1 << 20, 1 << 18, (8192, [-8192, -8192, -16384, 0])),
+        (1 << 20, 65548, (1, [-16383, -16383, -16384, 0])),
+    ];
+    for (n, sq, (margin, levels)) in at_first {
+        let meter = handed_in(n, sq, &[n]);
+        let level = (margin, levels, 0, 0, 10000);
+        row(tally, &format!("sq {sq}"), &meter, &list, &[level]);
+    }
+    let lower = handed_in(1 << 20, 65547, &[1 << 20]).at_thresholds(Thresholds::of(&list));
+    tally.equal("A_0 of -16384", lower.at_margin(1).report(), Err(15));
+    let between = [
+        (16101, [-141, 1, -16100, -142], 0, 1, 9763),
+        (16102, [-141, 0, -16102, -141], 0, 1, 9765),
+        (16103, [-141, -1, -16104, -140], 0, 1, 9766),
+        (16104, [-141, -2, -16106, -139], 0, 1, 9768),
+        (16105, [-141, -3, -16108, -138], 0, 1, 9770),
+    ];
+    let meter = handed_in(4096, 4000, &[4096, 2048, 100]);
+    row(tally, "between two", &meter, &list, &between);
+    let quiet = handed_in(4096, 2000, &[4096, 2048]);
+    let further = [
+        (10000, [-4237, -2090, -12090, -2147], 0, 1, 6954),
+        (12000, [-4237, -4090, -16090, -147], 0, 1, 9755),
+    ];
+    row(tally, "further below", &quiet, &list, &further);
+}
+
+/// The shortest list and the longest: their lowest and their highest crossings.
+fn shortest(tally: &mut Tally) {
+    let list = doubled(14, 1 << 24);
+    let zero = handed_in(32768, 1275068, &[32768]);
+    let lowest = (21635, [21635, 21635, 0, 0], 0, 0, 10000);
+    row(tally, "14, the lowest", &zero, &list, &[lowest]);
+    let loud = handed_in(4096, 1 << 43, &[4096; 14]);
+    let highest = (21635, [126976, 126976, 105341, 0], 12, 13, 10000);
+    row(tally, "14, the highest", &loud, &list, &[highest]);
+    let louder = handed_in(4096, 1 << 44, &[4096; 14]).at_thresholds(Thresholds::of(&list));
+    tally.equal("14, too loud", louder.report(), Err(16));
+    let list = doubled(18, 1 << 22);
+    let loud = handed_in(1 << 20, (1 << 52) - 1, &[1 << 20; 18]);
+    let highest = (8192, [131071, 131071, 122879, 0], 16, 17, 10000);
+    row(tally, "18, the highest", &loud, &list, &[highest]);
+    let a = [&[1000; 9][..], &[500; 3]].concat();
+    let rows = [
+        (8192, [2396, 6492, -1700, -4096], 7, 8, 5000),
+        (22314, [2396, 6492, -15822, -4096], 6, 7, 5000),
+    ];
+    row(tally, "24", &handed_in(2000, 3000, &a), &longest(), &rows);
+}
+
+/// Quiet speech at the built-in list and at a finer one, with the same counts where they have the
+/// same thresholds: 271 steps, 0.2 dB, apart.
+fn quiet_speech(tally: &mut Tally) {
+    let a = [
+        180000, 150000, 130000, 126000, 121000, 115000, 108000, 100000, 91000, 81000, 70000, 60000,
+        51000, 43000, 36000, 20000, 9000, 2000,
+    ];
+    let meter = handed_in(240000, 352000000, &a);
+    let level = (21635, [43083, 48255, 26620, -5172], 6, 7, 4168);
+    row(tally, "quiet, finer", &meter, &FINER, &[level]);
+    let shared = [0, 1, 2, 6, 10, 14, 15, 16, 17].map(|j| a[j]);
+    let meter = handed_in(240000, 352000000, &shared);
+    let level = (21635, [43083, 48526, 26891, -5443], 3, 4, 3981);
+    let list = doubled(15, 1 << 24);
+    row(tally, "quiet, built in", &meter, &list, &[level]);
+}
+
+/// The two bounds on A by E where powers of two are on the other side, at the first A for which
+/// each holds or breaks: all samples are active, at a threshold of 0 and at one raised to D.
+///
+/// With 1 for the square and 4 samples the level is -8192; with 2363 and 2364 it is -2.4998; with 1
+/// and 1 it is 0. Both powers move, or 2^A alone.
+fn bounds_below_zero(tally: &mut Tally) {
+    let rows = [
+        (vec![1, 0, 0, 0], -8193, -8191),
+        ([vec![1; 2363], vec![0]].concat(), -4, -1),
+        (vec![1], -1, 1),
+    ];
+    for (samples, least, most) in rows {
+        let mut exact = Exact::open(&RATES[0], 0);
+        exact.chunk(&samples);
+        let below = [least - 1, least].map(|A| exact.level_from_below(A, 0));
+        let above = [most, most + 1].map(|A| exact.level_from_above(A, 0));
+        let name = format!("bounds on A, {} samples", samples.len());
+        tally.equal(&name, (below, above), ([false, true], [true, false]));
+    }
+}
+
+/// What is told of openings, of meters handed in and of levels.
+fn lines(tally: &mut Tally) {
+    let own = Opening::from(setting(&changed(doubled(14, 1 << 24), 0, (1 << 24) + 1)));
+    let level = handed_in(16384, 1 << 30, &[4096; 8]);
+    let mut past = level.clone();
+    past.a[23] = 1;
+    let longer = Thresholds {
+        length: 16,
+        ..Thresholds::BUILT_IN
+    };
+    let records = script(&[
+        Record::open(Setting::usual(1)),
+        Record::open(Setting::usual(4)),
+        Record::Open(Opening {
+            margin: 0,
+            ..own.clone()
+        }),
+        Record::Open(own),
+        Record::Load(past),
+        Record::Load(level.at_thresholds(longer)),
+        Record::Load(level),
+        Record::Report,
+    ]);
+    let expected = "level length 15\nload length 15 0\nload length 16 2\nload list 20 2\n\
+                    load past count last 2\nopen 0 of \nopen 1 of 1\nopen 17 of 17 21\n\
+                    open 21 of 21\nopen built-in 0\nopen first 16777217 21\n\
+                    open last 137438953472 21\nopen length 14 21\nopen step of twice 21\n";
+    tally.equal("lists told", listed(&records).as_deref(), Some(expected));
+    tally.equal("lists of a bad record", listed(&[4, 0]), None);
+}
