@@ -1,13 +1,14 @@
 mod Ahead
 mod Calls
+mod Envelope
+mod Written
 pub mod Claim
 pub mod Crossings
 pub mod Demand3
-mod Envelope
 pub mod Fractions
 pub mod Lost
 pub mod Margins
 pub mod NoOffset
+pub mod Signs
 pub mod Tied
 pub mod TwoCards
-mod Written

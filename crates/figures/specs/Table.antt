@@ -487,6 +487,9 @@ table =
     ∷ reported (withMargin (pos 16382) (withList finer (given 4098 4096 (first 1 4098)))) (record { L = minus 2; A = minus 2; C = minus 16384; F = pos 0; lower = 0; upper = 0; T = 10000; M = pos 16382; mark = true })
     ∷ reported (withMargin (pos 1) (withList finer (given 65536 4097 (first 1 65536)))) (record { L = minus 16383; A = minus 16383; C = minus 16384; F = pos 0; lower = 0; upper = 0; T = 10000; M = pos 1; mark = true })
     ∷ reported (withMargin (pos 1) (withList finer (given 65536 4096 (50000 ∷ 40000 ∷ [])))) (record { L = minus 16384; A = minus 14179; C = minus 14180; F = minus 2205; lower = 0; upper = 1; T = 6886; M = pos 1; mark = true })
+    -- the second report of document 01's by the shortest list, and by one of 24, where its crossing is at the sixteenth place
+    ∷ reported (withList shortest (given 16384 (2 ^ 30) (first 7 4096 ++ (2048 ∷ [])))) (record { L = pos 65536; A = pos 76669; C = pos 55034; F = minus 11133; lower = 6; upper = 7; T = 1519; M = pos 21635; mark = false })
+    ∷ reported (withList finer (given 16384 (2 ^ 30) (first 15 4096 ++ (2048 ∷ [])))) (record { L = pos 65536; A = pos 76669; C = pos 55034; F = minus 11133; lower = 14; upper = 15; T = 1519; M = pos 21635; mark = false })
     -- quiet speech, which has no level by the built-in thresholds, and one by the finer; and its level by both at another margin
     ∷ refused (sampledMeter (usualSetting 1) softly) 15
     ∷ reported (sampledMeter (listBy 1 finer) softly) (record { L = pos 14102; A = pos 14420; C = minus 7215; F = minus 318; lower = 2; upper = 3; T = 9476; M = pos 21635; mark = false })

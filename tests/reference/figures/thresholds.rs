@@ -22,6 +22,7 @@ pub fn thresholds(tally: &mut Tally) {
     fresh(tally);
     levels(tally);
     meters(tally);
+    to_the_end(tally);
     past_end(tally);
     samples(tally);
     below_zero(tally);
@@ -180,6 +181,33 @@ fn refused(tally: &mut Tally, meter: &Meter) {
     tally.equal(&name, meter.chunk(&[]), (meter.clone(), 2));
     let block = crate::block::make(2, meter.n, &[1]);
     tally.equal(&name, meter.block(&block), (meter.clone(), 2));
+}
+
+/// Refusal 2 reads counts and hangovers up to the last of 24, and all of a length whose lowest byte or
+/// word is 24.
+fn to_the_end(tally: &mut Tally) {
+    let (fresh, _) = Meter::open(setting(&longest()));
+    let full = Meter {
+        n: 9,
+        a: [8; 24],
+        ..fresh
+    };
+    let with = |change: &dyn Fn(&mut Meter)| {
+        let mut meter = full.clone();
+        change(&mut meter);
+        meter.refusal_2()
+    };
+    let found = [
+        with(&|_| ()),
+        with(&|meter| meter.a[23] = 9),
+        with(&|meter| meter.a = [10; 24]),
+        with(&|meter| meter.h[23] = 1599),
+        with(&|meter| meter.h[23] = 1601),
+        with(&|meter| meter.setting.thresholds.length += 1 << 8),
+        with(&|meter| meter.setting.thresholds.length += 1 << 32),
+    ];
+    let expected = [false, true, true, true, true, true, true];
+    tally.equal("up to the end", found, expected);
 }
 
 /// Something past the end is refused, wherever; neighbours there are not compared, nor is the last

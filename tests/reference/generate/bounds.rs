@@ -72,24 +72,35 @@ fn with_list(random: &mut Random, code: u8, thresholds: Thresholds) -> Meter {
     Meter { a, h, ..meter }
 }
 
+/// So many thresholds that load where 14 to 24 do: by doubling up to 2^39 or less, the first of more
+/// than 17 a unit apart.
+fn doubling(count: u64) -> Vec<u64> {
+    let close = (0..count.saturating_sub(17)).map(|j| (1 << 22) + j);
+    let first = if count > 16 { 23 } else { 24 };
+    let doubled = (0..count.min(17)).map(|j| 1 << (first + j));
+    close.chain(doubled).collect()
+}
+
 /// Lengths in the range, just outside it and far, on lists that have as many thresholds where there
-/// are places, by doubling up to 2^39.
+/// are places; those past the range also on the built-in list, which has some of them in its lowest
+/// byte or word.
 fn lengths(random: &mut Random, code: u8) -> Vec<Meter> {
-    let with = |length: u64| {
-        let count = length.min(PLACES as u64);
-        let spare = count.saturating_sub(18);
-        let ones = (0..spare).map(|j| (1 << 22) + j);
-        let doubled = (spare..count).map(|j| 1 << (22 + j - spare));
-        let places: Vec<u64> = ones.chain(doubled).collect();
+    let within = [0, 1, 12, 13, 14, 15, 16, 17, 18, 23, 24];
+    let past = [25, 256 + 15, (1 << 32) + 15, (1 << 63) + 15, u64::MAX];
+    let mut meters = Vec::new();
+    for length in within.into_iter().chain(past) {
         let thresholds = Thresholds {
             length,
-            places: placed(&places),
+            places: placed(&doubling(length.min(PLACES as u64))),
         };
-        with_list(random, code, thresholds)
-    };
-    let far = [(1 << 32) + 15, (1 << 63) + 15, u64::MAX];
-    let lengths = [0, 1, 12, 13, 14, 15, 16, 17, 18, 23, 24, 25, 256 + 15];
-    lengths.into_iter().chain(far).map(with).collect()
+        meters.push(with_list(random, code, thresholds));
+    }
+    for length in past {
+        let mut meter = with_list(random, code, Thresholds::BUILT_IN);
+        meter.setting.thresholds.length = length;
+        meters.push(meter);
+    }
+    meters
 }
 
 /// Lists that load, at every edge, and ones that do not for their rise or for an end.
