@@ -21,7 +21,7 @@ pub struct Samples(u64);
 // A part of the whole, in hundredths of a percent.
 pub struct Hundredths(u64);
 
-// A level of the envelope, in units of 2^-24 quantizing interval.
+// The envelope or a threshold, in units of 2^-24 quantizing interval.
 pub struct Units(u64);
 
 // A sum of squares, in two words.
