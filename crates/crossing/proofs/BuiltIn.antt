@@ -1,8 +1,8 @@
 -- The built-in thresholds' levels: C_j is 8192·j.
 use mathlib.Core.Path.{_≡_, ap, _∙_}
-use Prim.Native.Nat.{ℕ, _+_, _-_, _*_, _^_, _<_}
+use Prim.Native.Nat.{ℕ, _+_, _-_, _*_, _<_}
 use native.Mathlib.Omega.{arith}
-use lib.IntN.{ℤ, pos, _-ℤ_}
+use lib.IntN.{pos, _-ℤ_}
 use Rattle.level.specs.Logarithm.{lev}
 use Rattle.level.proofs.Exact.{lev-power}
 use Rattle.thresholds.specs.Lists.{builtIn, builtInCount, thresholdOf}

@@ -5,7 +5,7 @@ use Prim.Native.Nat.{ℕ, zero, suc, _+_, _*_, _-_, _/_, _≤_, _<_}
 use native.Mathlib.Nat.{le-trans, le-of-lt, mul-le-mul-left, div-le-of-le-mul, mul-comm}
 use native.Mathlib.Omega.{arith}
 use borrow.Author.Tests.{ltb-true, ltb-false, leb-true, le-leb, le-ltb}
-use lib.Dec.{leb, ltb}
+use lib.Dec.{ltb}
 use lib.IntN.{ℤ, pos, negsuc, negℤ, natAbs, _+ℤ_, _-ℤ_, _*ℤ_, +ℤ-assoc, +ℤ-comm, +ℤ-negℤ-cancel, negℤ-+ℤ, negℤ-negℤ}
 use lib.Signed.{ltZ, leZ}
 use Rattle.signed.proofs.Order.{AtMost, at-most, at-most-test}

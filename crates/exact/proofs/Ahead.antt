@@ -14,7 +14,7 @@ use lib.IntN.{ℤ}
 use lib.ListN.{getD}
 use Rattle.level.specs.Types.{activity}
 use Rattle.thresholds.specs.declared.Thresholds.{Thresholds}
-use Rattle.thresholds.specs.Lists.{places, thresholdOf}
+use Rattle.thresholds.specs.Lists.{thresholdOf}
 use Rattle.thresholds.specs.Rising.{Rising}
 use Rattle.sample.specs.declared.Counting.{Counting}
 use Rattle.sample.specs.declared.State.{State}

@@ -25,7 +25,7 @@ use Rattle.sample.specs.declared.State.{State}
 use Rattle.sample.specs.Activity.{counted, hung}
 use Rattle.sample.specs.Envelope.{smooth, size, rectified}
 use Rattle.sample.specs.Sample.{upTo, each, freshState, summed, counts, hangovers, stateAfterOne, stateAfter}
-use Rattle.sample.proofs.Activity.{Under, under-refl, under-step, counted-le, hung-le}
+use Rattle.sample.proofs.Activity.{Under, under-step, counted-le, hung-le}
 use Rattle.sample.proofs.Envelope.{smooth-le}
 use Rattle.thresholds.proofs.Places.{each-at, up-to-at, up-to-past, filled-at}
 use Rattle.sample.proofs.Signs.{small, size-small}

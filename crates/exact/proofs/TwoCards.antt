@@ -1,7 +1,7 @@
 -- Two cards on one line: `two-cards`. E orders the counts of its two runs at thresholds that are d intervals apart, and so do the meters; demand 3 puts
 -- each meter's count between E's at the threshold and at the one raised by D.
 use mathlib.Core.List.{List}
-use mathlib.Core.Path.{_≡_, refl, sym, ap, ap₂, subst, subst₂, _∙_}
+use mathlib.Core.Path.{_≡_, sym, ap, ap₂, subst, subst₂, _∙_}
 use Prim.Native.Nat.{ℕ, _+_, _*_, _^_, _≤_, _<_}
 use native.Mathlib.Nat.{le-trans, mul-le-mul-right, two-pow-succ}
 use native.Mathlib.Numerals.{add-one}

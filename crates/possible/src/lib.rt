@@ -3,7 +3,7 @@
 ghost use mathlib.Core.Bool.{_||_};
 ghost use mathlib.Core.List.{[], _∷_};
 ghost use mathlib.Core.Path.{_≡_};
-ghost use Prim.Native.Nat.{_*_, _≤_, min};
+ghost use Prim.Native.Nat.{_*_, min};
 ghost use lib.Dec.{ltb};
 ghost use Rattle.level.specs.Types.{twoWords};
 ghost use Rattle.thresholds.specs.Lists.{places};

@@ -1,8 +1,7 @@
 -- The loop over runs: how it stands, a turn of it, and its end.
 use mathlib.Core.Bool.{Bool, false, cond, _||_}
 use mathlib.Core.List.{List}
-use mathlib.Core.Logic.{_⊎_}
-use mathlib.Core.Path.{_≡_, ap, ap₂, _∙_, sym, subst}
+use mathlib.Core.Path.{_≡_, ap, ap₂, _∙_, sym}
 use Prim.Native.Nat.{ℕ, _+_, _-_, _^_, _≤_, _<_, min}
 use native.Mathlib.Nat.{le-refl, lt-of-le-of-lt}
 use native.Mathlib.Omega.{arith}
@@ -20,7 +19,7 @@ use Rattle.sample.specs.declared.Sums.{Sums}
 use Rattle.sample.specs.declared.band.Band.{Band}
 use Rattle.sample.specs.declared.step.Moving.{Moving}
 use Rattle.sample.specs.Sample.{each, summed, stateAfter}
-use Rattle.sample.specs.Inner.Bands.{Clear, IsBand, Around}
+use Rattle.sample.specs.Inner.Bands.{Around}
 use Rattle.sample.specs.Inner.Steps.{begun, moved, ended, Room}
 use Rattle.sample.specs.Inner.Runs.{countOver, hangoverOver, countsBy, hangoversBy, Standing, SettledAt, Settled, between, stateOf, led, ledBy, Ran}
 use Rattle.sample.proofs.Bands.{clear, sides}

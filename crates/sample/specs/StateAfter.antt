@@ -5,7 +5,6 @@ use lib.IntN.{natAbs}
 use lib.ListN.{getD}
 use Rattle.level.specs.Types.{mostSamples, activity, twoWords}
 use Rattle.thresholds.specs.declared.Thresholds.{Thresholds}
-use Rattle.thresholds.specs.Lists.{places}
 use Rattle.thresholds.specs.Rising.{Rising}
 use Rattle.sample.specs.declared.Counting.{Counting}
 use Rattle.sample.specs.declared.Sums.{Sums}

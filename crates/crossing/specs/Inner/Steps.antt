@@ -1,6 +1,6 @@
 -- Levels in steps: how large they are, and what is said of each.
 use mathlib.Core.Path.{_≡_}
-use Prim.Native.Nat.{ℕ, _^_, _≤_, _<_}
+use Prim.Native.Nat.{ℕ, _^_, _≤_}
 use lib.IntN.{ℤ, pos, natAbs, _-ℤ_}
 use Rattle.level.specs.Logarithm.{lev}
 use Rattle.crossing.specs.Levels.{levelOfThreshold}

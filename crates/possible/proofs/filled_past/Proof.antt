@@ -1,9 +1,8 @@
 -- The invariant: no counter past the end and before j is filled.
 use borrow.Author.Needs.{needs}
-use mathlib.Core.Bool.{Bool, _||_}
+use mathlib.Core.Bool.{_||_}
 use mathlib.Core.Path.{_≡_, sym, ap, _∙_}
 use Prim.Native.Nat.{ℕ, _-_}
-use native.Mathlib.Omega.{arith}
 use lib.Dec.{ltb}
 use lib.ListN.{getD}
 use Rattle.level.specs.Types.{activity}

@@ -3,9 +3,7 @@ use borrow.Author.Needs.{needs}
 use mathlib.Core.Path.{_≡_, ap, ap₂, _∙_}
 use Prim.Native.Nat.{ℕ, _+_, _*_, _≤_, _<_, _^_}
 use native.Mathlib.Omega.{arith}
-use lib.IntN.{ℤ, pos, natAbs, _+ℤ_, _-ℤ_}
-use mir.Syntax.{w64}
-use mir.Facts.{toZ-pos}
+use lib.IntN.{pos, natAbs, _+ℤ_, _-ℤ_}
 use Rattle.signed.proofs.Sizes.{abs-minus}
 use Rattle.level.specs.Logarithm.{lev, levelOf}
 use Rattle.level.specs.declared.Units.{Units}

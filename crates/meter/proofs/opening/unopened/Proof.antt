@@ -1,6 +1,6 @@
 -- The meter is the fresh one of all zeros.
 use borrow.Author.Needs.{needs}
-use mathlib.Core.Path.{sym, ap, ap₂, _∙_, refl}
+use mathlib.Core.Path.{sym, ap, ap₂, _∙_}
 use native.Mathlib.Omega.{arith}
 use lib.IntN.{pos}
 use Rattle.level.specs.declared.Steps.{Steps}

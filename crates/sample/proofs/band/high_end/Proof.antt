@@ -1,7 +1,6 @@
 -- There is a next threshold, or there is none.
 use borrow.Author.Needs.{needs}
 use mathlib.Core.Path.{sym}
-use native.Mathlib.Omega.{arith}
 use Rattle.sample.proofs.Bands.{ends-at, ends-nowhere}
 use Rattle.sample.proofs.band.high_end.Statement.{statement}
 use Rattle.sample.proofs.band.high_end.Tie as tie

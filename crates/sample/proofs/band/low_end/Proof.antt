@@ -1,7 +1,5 @@
 -- A band above some thresholds begins at the last of them.
 use borrow.Author.Needs.{needs}
-use mathlib.Core.Path.{ap, sym}
-use native.Mathlib.Omega.{arith}
 use Rattle.sample.specs.Inner.Bands.{lowEnd}
 use Rattle.sample.proofs.Bands.{one-less}
 use Rattle.sample.proofs.band.low_end.Statement.{statement}

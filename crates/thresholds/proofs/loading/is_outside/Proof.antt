@@ -1,6 +1,6 @@
 -- Either test may hold.
 use borrow.Author.Tests.{lt-ltb, le-ltb}
-use mathlib.Core.Path.{refl, sym}
+use mathlib.Core.Path.{refl}
 use Rattle.thresholds.proofs.Below.{stop, go-on}
 use Rattle.thresholds.proofs.loading.is_outside.Statement.{statement}
 use Rattle.thresholds.proofs.loading.is_outside.Tie as tie

@@ -1,7 +1,7 @@
 -- Each rule in turn. A list whose length is not wrong has entries to be tested.
 use borrow.Author.Needs.{needs}
 use Prim.Native.Nat.{_≤_, _<_}
-use mathlib.Core.Path.{_≡_, sym, _∙_}
+use mathlib.Core.Path.{sym, _∙_}
 use native.Mathlib.Omega.{arith}
 use Rattle.refusal.proofs.Laws.{here, past, none}
 use Rattle.thresholds.specs.Lists.{places, listRules}

@@ -3,7 +3,6 @@ use borrow.Author.Needs.{needs}
 use borrow.Author.Tests.{lt-ltb, le-ltb}
 use mathlib.Core.Path.{sym}
 use Prim.Native.Nat.{_-_}
-use native.Mathlib.Omega.{arith}
 use Rattle.thresholds.specs.Lists.{places, filled}
 use Rattle.thresholds.proofs.Below.{some-from, Passed, passed-none, passed-on, passed-all}
 use Rattle.thresholds.proofs.loading.past_end.Statement.{statement}

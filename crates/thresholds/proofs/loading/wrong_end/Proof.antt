@@ -1,7 +1,6 @@
 -- One end after the other.
 use borrow.Author.Needs.{needs}
 use mathlib.Core.Path.{sym, _∙_}
-use native.Mathlib.Omega.{arith}
 use Rattle.thresholds.specs.Lists.{wrongEnd}
 use Rattle.thresholds.proofs.Below.{stop, go-on}
 use Rattle.thresholds.proofs.loading.wrong_end.Statement.{statement}

@@ -1,7 +1,6 @@
 -- Each rule in turn.
 use borrow.Author.Needs.{needs}
 use borrow.Author.Tests.{lt-ltb, le-ltb}
-use mathlib.Core.Path.{sym, _∙_}
 use Rattle.thresholds.specs.Lists.{wrongLength}
 use Rattle.thresholds.proofs.Below.{stop, go-on}
 use Rattle.thresholds.proofs.loading.wrong_length.Statement.{statement}

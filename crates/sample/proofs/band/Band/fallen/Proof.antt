@@ -1,5 +1,4 @@
 -- The invariant: the envelope is below where the band begins, or below its end. No envelope is below 0.
-use borrow.Author.Needs.{needs}
 use mathlib.Core.Logic.{_⊎_, inl, inr, ⊎-elim}
 use mathlib.Core.Path.{_≡_}
 use Prim.Native.Nat.{ℕ, zero, suc, _≤_, _<_}

@@ -1,5 +1,4 @@
 -- The invariant: the envelope is not below where the band begins. No envelope comes to the end of the last band.
-use borrow.Author.Needs.{needs}
 use mathlib.Core.Path.{_≡_, _∙_}
 use Prim.Native.Nat.{ℕ, _+_, _-_, _≤_, _<_}
 use native.Mathlib.Decide.{decLe}
