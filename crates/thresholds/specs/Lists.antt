@@ -27,7 +27,7 @@ heldOf l = record { count = length l; at = each places (λ j. getD l j 0) }
 unfoldable pub noList : Thresholds
 noList = record { count = 0; at = each places (λ j. 0) }
 
--- the built-in list: the first is one interval, 2^24 units, and each next is twice the one before; fifteen of them
+-- the built-in list: the first is one interval, 2^24 units, and each next is twice the one before; there are fifteen, and zeros past them
 unfoldable pub doubled : ℕ → ℕ
 doubled zero = 2 ^ 24
 doubled (suc j) = 2 * doubled j
@@ -42,7 +42,7 @@ builtIn = record { count = builtInCount; at = each places (upTo builtInCount dou
 abbrev pub filled : Thresholds → ℕ → Bool
 filled t j = ltb 0 (thresholdOf t j)
 
--- 19: a length outside 14 to 24, or one that is not how many places are filled: a place past it is
+-- 19: a length outside 14 to 24; or a place past it that is not zero, for then it is not how many there are
 unfoldable pub wrongLength : Thresholds → Bool
 wrongLength t = ltb (t .count) fewest || (ltb places (t .count) || someFrom (t .count) places (filled t))
 
