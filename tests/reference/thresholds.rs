@@ -57,7 +57,7 @@ impl Thresholds {
         self.length.min(PLACES as u64) as usize
     }
 
-    /// The thresholds within the list, and what stands past its end.
+    /// The thresholds within the list.
     pub fn entries(&self) -> &[u64] {
         &self.places[..self.count()]
     }
@@ -121,4 +121,15 @@ pub fn wrong_end(entries: &[u64]) -> bool {
         threshold.is_some_and(|threshold| range.contains(threshold))
     };
     !within(entries.first(), FIRST) || !within(entries.last(), LAST)
+}
+
+/// By doubling, so many thresholds from a first on.
+pub fn doubled(count: usize, first: u64) -> Vec<u64> {
+    (0..count).map(|j| first << j).collect()
+}
+
+/// A list with one threshold changed.
+pub fn changed(mut list: Vec<u64>, j: usize, threshold: u64) -> Vec<u64> {
+    list[j] = threshold;
+    list
 }

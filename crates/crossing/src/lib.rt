@@ -33,7 +33,7 @@ pub enum Found {
     Above,
 }
 
-// The levels of n samples with the sum of squares sq and the activity counts a.
+// The levels of n samples with the sum of squares sq and, at a list of thresholds, the activity counts a.
 pub fn find_levels(
     n: Samples,
     sq: Squares,

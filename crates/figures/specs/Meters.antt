@@ -18,7 +18,7 @@ use Rattle.meter.specs.Calls.{fresh}
 abbrev pub padded : List ℕ → List ℕ
 padded l = l ++ replicate (places - length l) 0
 
--- a list of another length than it says, by its places
+-- places filled with these numbers, beside any length
 abbrev pub placed : (count : ℕ) → List ℕ → Thresholds
 placed count l = record { count = count; at = padded l }
 

@@ -3,7 +3,7 @@ use mathlib.Core.Bool.{true, false}
 use mathlib.Core.List.{List, [], _∷_, _++_}
 use Prim.Native.Nat.{ℕ, zero, suc, _+_, _-_, _*_, _^_}
 use lib.IntN.{ℤ, pos, negsuc}
-use lib.ListN.{replicate}
+use lib.ListN.{length, replicate}
 use Rattle.level.specs.Types.{stepsOf}
 use Rattle.thresholds.specs.Places.{listFrom}
 use Rattle.thresholds.specs.Lists.{builtIn, heldOf}
@@ -16,7 +16,7 @@ use Rattle.figures.specs.Blocks.{samplesOfThree, soundBlock, fullBlock, 
 use Rattle.figures.specs.Meters.{placed, offsetBy, marginBy, placedBy, listBy, freshAt, given, plain, withCode, withOffset, withMargin, withThresholds, withList, withN, withS, withSq, withP, withQ, withA, withH}
 use Rattle.figures.specs.Rows.{Values, Row, level, noLevel, percent, sampled, reported, refused, opened, handedIn, answered, checked, made, played, counted, needsTwo, cards, needsD, sampledMeter}
 
--- x for the first k, 0 for the others
+-- x at the first k places
 abbrev first : (k x : ℕ) → List ℕ
 first k x = replicate k x
 
@@ -31,12 +31,12 @@ powers = listFrom threshold 0 15
 abbrev from : (e k : ℕ) → List ℕ
 from e k = listFrom (λ j. 2 ^ (e + j)) 0 k
 
--- the shortest list, and one of 24, finer below 16 intervals: halfway between two powers stands another
+-- the shortest list, and the fine one, of 24: below 16 intervals another stands halfway between each two powers of two
 abbrev shortest : List ℕ
 shortest = from 24 14
 
-abbrev finer : List ℕ
-finer =
+abbrev fine : List ℕ
+fine =
     2 ^ 22
     ∷ 3 * 2 ^ 21
     ∷ 2 ^ 23
@@ -86,7 +86,7 @@ quiet = given 32768 (2 ^ 20) (first 1 32768)
 
 -- the meter of all zeros
 abbrev zeros : Values
-zeros = record { code = 0; offset = pos 0; margin = pos 0; count = 0; c = []; n = 0; s = pos 0; high = 0; low = 0; P = 0; Q = 0; a = first 0 0; h = first 0 0 }
+zeros = record { code = 0; offset = pos 0; margin = pos 0; count = 0; c = []; n = 0; s = pos 0; high = 0; low = 0; P = 0; Q = 0; a = []; h = [] }
 
 -- 260 samples at code 1: loud ones, a refused block of three bytes, a sound one of twenty samples, and near silence in which hangovers run out
 unfoldable pub run : List Call
@@ -97,24 +97,34 @@ run =
     ∷ chunk (replicate 170 (pos 0) ++ replicate 30 (pos 300))
     ∷ []
 
--- what it leaves without an offset, at a margin
-abbrev ran : (M : ℤ) → Values
-ran M =
+-- what it leaves without an offset, at a margin and thresholds c, with counts a and hangovers h
+abbrev ran : (M : ℤ) (c a h : List ℕ) → Values
+ran M c a h =
     record {
       code = 1;
       offset = pos 0;
       margin = M;
-      count = 15;
-      c = powers;
+      count = length c;
+      c = c;
       n = 260;
       s = minus 576360;
       high = 0;
       low = 27907536480;
       P = 3869760806;
       Q = 2445109210;
-      a = 260 ∷ 260 ∷ 260 ∷ 260 ∷ 260 ∷ 259 ∷ 258 ∷ 257 ∷ 256 ∷ 253 ∷ 249 ∷ 242 ∷ 229 ∷ 197 ∷ 146 ∷ [];
-      h = 0 ∷ 0 ∷ 0 ∷ 0 ∷ 0 ∷ 0 ∷ 0 ∷ 0 ∷ 65 ∷ 82 ∷ 99 ∷ 117 ∷ 136 ∷ 139 ∷ 139 ∷ [];
+      a = a;
+      h = h;
     }
+
+-- the counts and hangovers at 2^24 to 2^37, and all of it with the built-in list
+abbrev ranCounts : List ℕ
+ranCounts = 260 ∷ 260 ∷ 260 ∷ 260 ∷ 260 ∷ 259 ∷ 258 ∷ 257 ∷ 256 ∷ 253 ∷ 249 ∷ 242 ∷ 229 ∷ 197 ∷ []
+
+abbrev ranHangovers : List ℕ
+ranHangovers = 0 ∷ 0 ∷ 0 ∷ 0 ∷ 0 ∷ 0 ∷ 0 ∷ 0 ∷ 65 ∷ 82 ∷ 99 ∷ 117 ∷ 136 ∷ 139 ∷ []
+
+abbrev ranAsUsual : (M : ℤ) → Values
+ranAsUsual M = ran M powers (ranCounts ++ (146 ∷ [])) (ranHangovers ++ (139 ∷ []))
 
 -- as many samples as `run` has, in two chunks: at the offset 300 each is 3 apart in size from the one there, and but for the twenty and the last thirty it
 -- lies on the other side
@@ -124,12 +134,12 @@ mirrored =
     ∷ chunk (replicate 170 (pos 603) ++ replicate 30 (pos 297))
     ∷ []
 
--- the setting of that card, with the least margin, and with the finer list too
+-- the setting of that card with the least margin, and with the fine list as well
 abbrev otherCard : Setting
 otherCard = record { code = 1; offset = pos 300; margin = stepsOf (pos 1); thresholds = builtIn }
 
-abbrev finerCard : Setting
-finerCard = record { code = 1; offset = pos 300; margin = stepsOf (pos 1); thresholds = heldOf finer }
+abbrev fineCard : Setting
+fineCard = record { code = 1; offset = pos 300; margin = stepsOf (pos 1); thresholds = heldOf fine }
 
 -- three samples after which Q is one unit under c_6, and q is not
 abbrev justUnder : List Call
@@ -169,8 +179,8 @@ table =
     ∷ level 10 13606
     ∷ level (2 ^ 32 - 1) 131071
     ∷ level (2 ^ 78) 319488
-    ∷ sampled (usualSetting 2) (pos 32767 ∷ []) 2285825920 9504509 (first 0 0) 14
-    ∷ sampled (usualSetting 2) (minus 1 ∷ []) 69760 290 (first 0 0) 14
+    ∷ sampled (usualSetting 2) (pos 32767 ∷ []) 2285825920 9504509 [] 14
+    ∷ sampled (usualSetting 2) (minus 1 ∷ []) 69760 290 [] 14
     -- at an offset: the largest size that a sample can have, and a sample that is the offset
     ∷ played (offsetBy 2 (pos 32767)) (chunk (minus 32768 ∷ []) ∷ []) (record {
       code = 2;
@@ -199,7 +209,7 @@ table =
       low = 0;
       P = 0;
       Q = 0;
-      a = first 0 0;
+      a = [];
       h = replicate 15 1600;
     })
     -- percentages, and reports
@@ -224,7 +234,7 @@ table =
     ∷ percent (pos (2 ^ 63 - 1)) 10000
     ∷ percent (minus (2 ^ 63)) 0
     -- the third rate
-    ∷ sampled (usualSetting 3) (pos 32767 ∷ []) 1143961504 2380489 (first 0 0) 14
+    ∷ sampled (usualSetting 3) (pos 32767 ∷ []) 1143961504 2380489 [] 14
     -- and the largest size the other way
     ∷ played (offsetBy 3 (minus 32768)) (chunk (pos 32767 ∷ []) ∷ []) (record {
       code = 3;
@@ -238,7 +248,7 @@ table =
       low = 4294836225;
       P = 2287957920;
       Q = 4761051;
-      a = first 0 0;
+      a = [];
       h = replicate 15 3200;
     })
     -- a crossing at the last threshold
@@ -246,10 +256,10 @@ table =
     -- the largest sq that a report can meet
     ∷ reported (given (2 ^ 48) (2 ^ 80) (first 15 (2 ^ 48))) (record { L = pos 131072; A = pos 131072; C = pos 109437; F = pos 0; lower = 13; upper = 14; T = 10000; M = pos 21635; mark = false })
     -- the other refusals of a report
-    ∷ refused (given 1 (2 ^ 32 + 1) (first 0 0)) 2
-    ∷ refused (given 0 0 (first 0 0)) 12
-    ∷ refused (given 1 0 (first 0 0)) 13
-    ∷ refused (given (2 ^ 40) (2 ^ 64) (first 0 0)) 14
+    ∷ refused (given 1 (2 ^ 32 + 1) []) 2
+    ∷ refused (given 0 0 []) 12
+    ∷ refused (given 1 0 []) 13
+    ∷ refused (given (2 ^ 40) (2 ^ 64) []) 14
     ∷ refused (given 16384 (2 ^ 40) (first 8 4096)) 16
     -- opening
     ∷ opened (usualSetting 0) 1
@@ -271,16 +281,17 @@ table =
     ∷ opened (marginBy 4 (pos 22315)) 1
     -- the list: its shortest and a longest, and 19 at a length of 0, 13, 25 and any larger, whatever the entries are, and where something stands past the end
     ∷ opened (listBy 1 shortest) 0
-    ∷ opened (listBy 1 finer) 0
+    ∷ opened (listBy 1 fine) 0
     ∷ opened (listBy 1 []) 19
     ∷ opened (listBy 1 (from 25 13)) 19
-    ∷ opened (listBy 1 (finer ++ ((2 ^ 39 + 1) ∷ []))) 19
+    ∷ opened (listBy 1 (fine ++ ((2 ^ 39 + 1) ∷ []))) 19
     ∷ opened (placedBy 1 (placed 65534 powers)) 19
     ∷ opened (placedBy 1 (placed (2 ^ 64 - 1) powers)) 19
     ∷ opened (placedBy 1 (placed 13 twice)) 19
     ∷ opened (placedBy 1 (placed 14 powers)) 19
     ∷ opened (placedBy 1 (placed 15 (powers ++ replicate 8 0 ++ (1 ∷ [])))) 19
-    -- 20: an entry once more, the first pair and the last; a lower one; one more than twice the one before, the first and the last; zeros within the list
+    -- 20: an entry once more, at the first pair and at the last; a lower one; one more than twice the one before, the last entry and the second; zeros within
+    -- the list
     ∷ opened (listBy 1 twice) 20
     ∷ opened (listBy 1 (shortest ++ (2 ^ 37 ∷ []))) 20
     ∷ opened (listBy 1 (from 24 8 ++ from 30 8)) 20
@@ -301,7 +312,7 @@ table =
     ∷ opened (record { code = 1; offset = pos 0; margin = stepsOf (pos 0); thresholds = heldOf [] }) 17
     ∷ opened (listBy 1 (2 ^ 62 ∷ 2 ^ 62 ∷ from 24 11)) 19
     ∷ opened (listBy 1 (2 ^ 62 ∷ 2 ^ 62 ∷ from 24 12)) 20
-    -- a refused list is kept as little
+    -- a refused opening keeps no list
     ∷ played (listBy 1 wide) [] zeros
     -- an opening keeps its list, and its margin
     ∷ played (listBy 3 shortest) [] (record {
@@ -331,7 +342,7 @@ table =
       low = 0;
       P = 0;
       Q = 0;
-      a = first 0 0;
+      a = [];
       h = replicate 15 3200;
     })
     -- a refused one keeps nothing, neither the offset nor the margin
@@ -353,15 +364,19 @@ table =
     ∷ handedIn (withMargin (pos (2 ^ 63 - 1)) plain) 2
     -- a list that would not load, for each rule
     ∷ handedIn (withList shortest plain) 0
-    ∷ handedIn (withList finer plain) 0
+    ∷ handedIn (withList fine plain) 0
     ∷ handedIn (withList [] plain) 2
     ∷ handedIn (withList (from 25 13) plain) 2
-    ∷ handedIn (withThresholds (placed 25 finer) plain) 2
+    ∷ handedIn (withThresholds (placed 25 fine) plain) 2
     ∷ handedIn (withThresholds (placed (2 ^ 64 - 1) powers) plain) 2
     ∷ handedIn (withThresholds (placed 14 powers) plain) 2
+    ∷ handedIn (withThresholds (placed 15 (powers ++ replicate 8 0 ++ (1 ∷ []))) plain) 2
     ∷ handedIn (withList twice plain) 2
+    ∷ handedIn (withList (shortest ++ (2 ^ 37 ∷ [])) plain) 2
     ∷ handedIn (withList wide plain) 2
     ∷ handedIn (withList ((2 ^ 22 - 1) ∷ from 22 16) plain) 2
+    ∷ handedIn (withList ((2 ^ 24 + 1) ∷ from 25 13) plain) 2
+    ∷ handedIn (withList (from 24 13 ++ ((2 ^ 37 - 1) ∷ [])) plain) 2
     ∷ handedIn (withList (from 24 16 ++ ((2 ^ 39 + 1) ∷ [])) plain) 2
     ∷ handedIn (withList wrapping plain) 2
     -- n > 2^48
@@ -419,14 +434,15 @@ table =
     ∷ handedIn (withList shortest (withA (replicate 15 5) plain)) 2
     ∷ handedIn (withList shortest (withH (replicate 14 1600) plain)) 0
     ∷ handedIn (withList shortest (withH (replicate 15 1600) plain)) 2
-    ∷ handedIn (withList finer (withA (replicate 24 5) plain)) 0
-    ∷ handedIn (withList finer (withA (replicate 23 5 ++ (6 ∷ [])) plain)) 2
-    ∷ handedIn (withList finer (withH (replicate 24 1600) plain)) 0
-    ∷ handedIn (withList finer (withH (replicate 23 6 ++ (5 ∷ [])) plain)) 2
-    ∷ handedIn (withList finer (withH (replicate 23 1600 ++ (1601 ∷ [])) plain)) 2
+    ∷ handedIn (withList fine (withA (replicate 24 5) plain)) 0
+    ∷ handedIn (withList fine (withA (replicate 23 5 ++ (6 ∷ [])) plain)) 2
+    ∷ handedIn (withList fine (withH (replicate 24 1600) plain)) 0
+    ∷ handedIn (withList fine (withH (replicate 23 6 ++ (5 ∷ [])) plain)) 2
+    ∷ handedIn (withList fine (withH (replicate 23 1600 ++ (1601 ∷ [])) plain)) 2
     -- the refusals of calls
     ∷ answered (freshAt 1) faults (3 ∷ 4 ∷ 5 ∷ 5 ∷ 5 ∷ 6 ∷ 7 ∷ 8 ∷ 8 ∷ 9 ∷ 9 ∷ 10 ∷ 0 ∷ 10 ∷ 0 ∷ [])
     ∷ answered (withCode 0 plain) (chunk (replicate 4097 (pos 0)) ∷ block threeBytes ∷ []) (2 ∷ 2 ∷ [])
+    ∷ answered (withList [] plain) (chunk (replicate 4097 (pos 0)) ∷ block threeBytes ∷ []) (2 ∷ 2 ∷ [])
     ∷ answered (withMargin (pos 0) plain) (chunk (replicate 4097 (pos 0)) ∷ block threeBytes ∷ []) (2 ∷ 2 ∷ [])
     ∷ answered (withN (2 ^ 48 - 1) plain) (chunk (pos 1 ∷ pos 1 ∷ []) ∷ chunk (pos 1 ∷ []) ∷ chunk (pos 1 ∷ []) ∷ []) (11 ∷ 0 ∷ 11 ∷ [])
     ∷ answered (withCode 1 (withN (2 ^ 48) plain)) (chunk (replicate 4097 (pos 0)) ∷ block soundBlock ∷ block endBlock ∷ []) (3 ∷ 10 ∷ 11 ∷ [])
@@ -468,11 +484,12 @@ table =
     ∷ reported (withMargin (pos 22314) second) (record { L = pos 65536; A = pos 75990; C = pos 53676; F = minus 10454; lower = 6; upper = 7; T = 1705; M = pos 22314; mark = false })
     ∷ refused (withMargin (pos 22315) second) 2
     ∷ refused (withMargin (pos 0) second) 2
-    -- the smallest margin: a high threshold is picked; and the smallest active level that there can be
+    -- the smallest margin: a high threshold is picked; and the smallest active level that there can be with the built-in list
     ∷ reported (withMargin (pos 1) (given 16384 (2 ^ 30) (replicate 8 4096 ++ (2900 ∷ 2400 ∷ 1500 ∷ replicate 4 0)))) (record { L = pos 65536; A = pos 78507; C = pos 78506; F = minus 12971; lower = 9; upper = 10; T = 1113; M = pos 1; mark = true })
     ∷ reported (withMargin (pos 1) (given 4096 4097 (first 1 4096))) (record { L = pos 1; A = pos 1; C = pos 0; F = pos 0; lower = 0; upper = 0; T = 10000; M = pos 1; mark = true })
-    -- the margin is tested before n
-    ∷ refused (withMargin (pos 0) (given 0 0 (first 0 0))) 2
+    -- the margin and the list are tested before n
+    ∷ refused (withMargin (pos 0) (given 0 0 [])) 2
+    ∷ refused (withList [] (given 0 0 [])) 2
     -- the customer's 15 at a smaller margin: a level at one margin alone, 15 at the next larger and 16 at the next smaller
     ∷ refused (withMargin (pos 20481) quiet) 15
     ∷ reported (withMargin (pos 20480) quiet) (record { L = pos 20480; A = pos 20480; C = pos 0; F = pos 0; lower = 0; upper = 0; T = 10000; M = pos 20480; mark = true })
@@ -483,44 +500,32 @@ table =
     ∷ reported (withMargin (pos 20955) (given 16384 (2 ^ 30) (replicate 7 4096 ++ (3000 ∷ replicate 7 0)))) (record { L = pos 65536; A = pos 74777; C = pos 53822; F = minus 9241; lower = 6; upper = 7; T = 2093; M = pos 20955; mark = false })
     ∷ reported (given 16384 (2 ^ 30) (replicate 7 4096 ++ (3000 ∷ replicate 7 0))) (record { L = pos 65536; A = pos 74580; C = pos 52945; F = minus 9044; lower = 6; upper = 7; T = 2164; M = pos 21635; mark = false })
     -- levels below 0, which thresholds under one interval allow: −1, −2, the least that there can be, and one between two thresholds
-    ∷ reported (withMargin (pos 16383) (withList finer (given 4097 4096 (first 1 4097)))) (record { L = minus 1; A = minus 1; C = minus 16384; F = pos 0; lower = 0; upper = 0; T = 10000; M = pos 16383; mark = true })
-    ∷ reported (withMargin (pos 16382) (withList finer (given 4098 4096 (first 1 4098)))) (record { L = minus 2; A = minus 2; C = minus 16384; F = pos 0; lower = 0; upper = 0; T = 10000; M = pos 16382; mark = true })
-    ∷ reported (withMargin (pos 1) (withList finer (given 65536 4097 (first 1 65536)))) (record { L = minus 16383; A = minus 16383; C = minus 16384; F = pos 0; lower = 0; upper = 0; T = 10000; M = pos 1; mark = true })
-    ∷ reported (withMargin (pos 1) (withList finer (given 65536 4096 (50000 ∷ 40000 ∷ [])))) (record { L = minus 16384; A = minus 14179; C = minus 14180; F = minus 2205; lower = 0; upper = 1; T = 6886; M = pos 1; mark = true })
-    -- the second report of document 01's by the shortest list, and by one of 24, where its crossing is at the sixteenth place
+    ∷ reported (withMargin (pos 16383) (withList fine (given 4097 4096 (first 1 4097)))) (record { L = minus 1; A = minus 1; C = minus 16384; F = pos 0; lower = 0; upper = 0; T = 10000; M = pos 16383; mark = true })
+    ∷ reported (withMargin (pos 16382) (withList fine (given 4098 4096 (first 1 4098)))) (record { L = minus 2; A = minus 2; C = minus 16384; F = pos 0; lower = 0; upper = 0; T = 10000; M = pos 16382; mark = true })
+    ∷ reported (withMargin (pos 1) (withList fine (given 65536 4097 (first 1 65536)))) (record { L = minus 16383; A = minus 16383; C = minus 16384; F = pos 0; lower = 0; upper = 0; T = 10000; M = pos 1; mark = true })
+    ∷ reported (withMargin (pos 1) (withList fine (given 65536 4096 (50000 ∷ 40000 ∷ [])))) (record { L = minus 16384; A = minus 14179; C = minus 14180; F = minus 2205; lower = 0; upper = 1; T = 6886; M = pos 1; mark = true })
+    -- document 01's second report, with the shortest list, and with the fine one, in which its crossing is at the sixteenth place
     ∷ reported (withList shortest (given 16384 (2 ^ 30) (first 7 4096 ++ (2048 ∷ [])))) (record { L = pos 65536; A = pos 76669; C = pos 55034; F = minus 11133; lower = 6; upper = 7; T = 1519; M = pos 21635; mark = false })
-    ∷ reported (withList finer (given 16384 (2 ^ 30) (first 15 4096 ++ (2048 ∷ [])))) (record { L = pos 65536; A = pos 76669; C = pos 55034; F = minus 11133; lower = 14; upper = 15; T = 1519; M = pos 21635; mark = false })
-    -- quiet speech, which has no level by the built-in thresholds, and one by the finer; and its level by both at another margin
+    ∷ reported (withList fine (given 16384 (2 ^ 30) (first 15 4096 ++ (2048 ∷ [])))) (record { L = pos 65536; A = pos 76669; C = pos 55034; F = minus 11133; lower = 14; upper = 15; T = 1519; M = pos 21635; mark = false })
+    -- quiet speech, which has no level with the built-in list, and one with the fine list; and its level with both at another margin
     ∷ refused (sampledMeter (usualSetting 1) softly) 15
-    ∷ reported (sampledMeter (listBy 1 finer) softly) (record { L = pos 14102; A = pos 14420; C = minus 7215; F = minus 318; lower = 2; upper = 3; T = 9476; M = pos 21635; mark = false })
+    ∷ reported (sampledMeter (listBy 1 fine) softly) (record { L = pos 14102; A = pos 14420; C = minus 7215; F = minus 318; lower = 2; upper = 3; T = 9476; M = pos 21635; mark = false })
     ∷ reported (sampledMeter (marginBy 1 (pos 5000)) softly) (record { L = pos 14102; A = pos 15751; C = pos 10751; F = minus 1649; lower = 1; upper = 2; T = 7565; M = pos 5000; mark = true })
-    ∷ reported (withMargin (pos 5000) (sampledMeter (listBy 1 finer) softly)) (record { L = pos 14102; A = pos 15216; C = pos 10216; F = minus 1114; lower = 6; upper = 7; T = 8282; M = pos 5000; mark = true })
+    ∷ reported (withMargin (pos 5000) (sampledMeter (listBy 1 fine) softly)) (record { L = pos 14102; A = pos 15216; C = pos 10216; F = minus 1114; lower = 6; upper = 7; T = 8282; M = pos 5000; mark = true })
     -- the meter and E over a run of calls
-    ∷ played (usualSetting 1) run (ran (pos 21635))
+    ∷ played (usualSetting 1) run (ranAsUsual (pos 21635))
     ∷ counted (usualSetting 1) run (threshold 6) 258
     ∷ counted (usualSetting 1) run (threshold 12) 229
     ∷ counted (usualSetting 1) run (threshold 13) 197
     ∷ counted (usualSetting 1) run (threshold 13 + 43) 197
     ∷ counted (usualSetting 1) run (threshold 14) 146
     -- and at another margin, which changes nothing but itself
-    ∷ played (marginBy 1 (pos 1)) run (ran (pos 1))
+    ∷ played (marginBy 1 (pos 1)) run (ranAsUsual (pos 1))
     ∷ counted (marginBy 1 (pos 1)) run (threshold 13) 197
-    -- and by the finer list
-    ∷ played (listBy 1 finer) run (record {
-      code = 1;
-      offset = pos 0;
-      margin = pos 21635;
-      count = 24;
-      c = finer;
-      n = 260;
-      s = minus 576360;
-      high = 0;
-      low = 27907536480;
-      P = 3869760806;
-      Q = 2445109210;
-      a = replicate 13 260 ++ (259 ∷ 258 ∷ 257 ∷ 256 ∷ 253 ∷ 249 ∷ 242 ∷ 229 ∷ 197 ∷ 146 ∷ 0 ∷ []);
-      h = replicate 16 0 ++ (65 ∷ 82 ∷ 99 ∷ 117 ∷ 136 ∷ 139 ∷ 139 ∷ 139 ∷ []);
-    })
+    -- and with the shortest list, and with the fine one
+    ∷ played (listBy 1 shortest) run (ran (pos 21635) shortest ranCounts ranHangovers)
+    ∷ played (listBy 1 fine) run (ran (pos 21635) fine (replicate 13 260 ++ (259 ∷ 258 ∷ 257 ∷ 256 ∷ 253 ∷ 249 ∷ 242 ∷ 229 ∷ 197 ∷ 146 ∷ 0 ∷ []))
+        (replicate 16 0 ++ (65 ∷ 82 ∷ 99 ∷ 117 ∷ 136 ∷ 139 ∷ 139 ∷ 139 ∷ [])))
     -- and at an offset, over the same calls
     ∷ played (offsetBy 1 (pos 300)) run (record {
       code = 1;
@@ -547,7 +552,7 @@ table =
     -- two cards on one line, cut differently, of which the first has a refused call, and the second another margin
     ∷ cards 3 (offsetBy 1 (pos 300)) otherCard run mirrored 12 (4099 * 2 ^ 24 + 43) 228 229
     -- and where the second has other thresholds than the first, of which 2^36 has another place
-    ∷ cards 3 (offsetBy 1 (pos 300)) finerCard run mirrored 20 (4099 * 2 ^ 24 + 43) 228 229
+    ∷ cards 3 (offsetBy 1 (pos 300)) fineCard run mirrored 20 (4099 * 2 ^ 24 + 43) 228 229
     -- 400 apart at code 2, where the first has the largest size there is
     ∷ cards 400 (offsetBy 2 (minus 32768)) (offsetBy 2 (minus 32768)) (constant (pos 32767) 40) (constant (pos 32367) 40) 8 (656 * 2 ^ 24 + 481) 5 19
     -- d − 1 intervals would not do: at c_0 raised by D alone E counts 6 for the first, and the second meter counts 0

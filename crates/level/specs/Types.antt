@@ -9,7 +9,7 @@ use Rattle.level.specs.declared.Squares.{Squares}
 use Rattle.level.specs.declared.Steps.{Steps}
 use Rattle.level.specs.declared.Units.{Units}
 
--- a number as a count of samples, as hundredths of a percent, and as a level or a difference of two
+-- a number as a count of samples, as hundredths of a percent, as a threshold in units, and as a level or a difference of two
 abbrev pub samplesOf : ℕ → Samples
 samplesOf n = record { 0 = n }
 

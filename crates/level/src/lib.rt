@@ -1,6 +1,6 @@
 // The level logarithm (METHOD.md, "The level logarithm"), and the types that keep counts of
-// samples, hundredths of a percent and levels in steps apart: only the logarithm leads from the first
-// two to the third.
+// samples, hundredths of a percent, thresholds in units and levels in steps apart: only the logarithm
+// leads from the first three to the last.
 mod sums;
 
 ghost use mathlib.Core.Path.{_≡_};
@@ -21,7 +21,7 @@ pub struct Samples(u64);
 // A part of the whole, in hundredths of a percent.
 pub struct Hundredths(u64);
 
-// The envelope or a threshold, in units of 2^-24 quantizing interval.
+// A threshold, in units of 2^-24 quantizing interval.
 pub struct Units(u64);
 
 // A sum of squares, in two words.

@@ -6,7 +6,7 @@ use Prim.Native.Nat.{ℕ, suc, _-_}
 use native.Mathlib.Omega.{arith}
 use borrow.Author.Tests.{le-leb}
 use lib.Dec.{leb}
-use Rattle.thresholds.proofs.Below.{neither}
+use Rattle.thresholds.proofs.Below.{neither, stop as stop-at, go-on as go-past}
 use Rattle.possible.specs.Impossible.{anyOf}
 
 -- after the first place there is one before
@@ -17,11 +17,11 @@ after-first j f = ap₂ (λ (b : Bool) (i : ℕ). b && f i) (le-leb 1 (suc j) (o
 
 pub stop : (b : Bool) (rest : List Bool) → b ≡ true → true ≡ anyOf (b ∷ rest)
 unfolding anyOf
-stop b rest e = sym (ap (λ (x : Bool). x || anyOf rest) e)
+stop b rest e = stop-at b (anyOf rest) e
 
 pub go-on : {r : Bool} (b : Bool) (rest : List Bool) → b ≡ false → r ≡ anyOf rest → r ≡ anyOf (b ∷ rest)
 unfolding anyOf
-go-on b rest e h = h ∙ sym (ap (λ (x : Bool). x || anyOf rest) e)
+go-on b rest e h = go-past b (anyOf rest) _ e h
 
 pub at-last : (b : Bool) → b ≡ anyOf (b ∷ [])
 unfolding anyOf

@@ -63,33 +63,34 @@ pub fn impossible_counters(state: State, count: usize, hangover: u64) -> bool
     ensures { λ r. ⌜ r ≡ someBelow (min count places) (impossibleCounter hangover state) || someFrom count places (filledCounter state) ⌝ }
 {
     let many = least(count, PLACES);
-    let mut a = state.sums.n.count();
-    let mut h = 0;
+    let mut before = state.sums.n.count();
+    let mut held = 0;
     let mut j = 0;
     while j < many {
-        let b = state.a[j].count();
-        let g = state.h[j];
-        if impossible_next(a, h, b, g, hangover) {
+        let a = state.a[j].count();
+        let h = state.h[j];
+        if impossible_next(before, held, a, h, hangover) {
             return true;
         }
-        a = b;
-        h = g;
+        before = a;
+        held = h;
         j += 1;
     }
     filled_past(state, count)
 }
 
-// The conditions on a counter b, g after the one of a, h.
-fn impossible_next(a: u64, h: u64, b: u64, g: u64, hangover: u64) -> bool
-    ensures { λ r. ⌜ r ≡ anyOf (ltb hangover g ∷ (ltb a b ∷ (ltb g h ∷ []))) ⌝ }
+// The conditions on a count and its hangover, `hung`, which come after a count `before` and its hangover
+// `held`. No hangover may be above `most`.
+fn impossible_next(before: u64, held: u64, count: u64, hung: u64, most: u64) -> bool
+    ensures { λ r. ⌜ r ≡ anyOf (ltb most hung ∷ (ltb before count ∷ (ltb hung held ∷ []))) ⌝ }
 {
-    if hangover < g {
+    if most < hung {
         return true;
     }
-    if a < b {
+    if before < count {
         return true;
     }
-    g < h
+    hung < held
 }
 
 // Whether a counter past the end of the list is not zero.

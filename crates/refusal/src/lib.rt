@@ -40,7 +40,7 @@ pub enum Refusal {
     WrongMargin,
     // 18: samples that make no block: none, more than 248, or such as would end above 2^48
     UnwritableSamples,
-    // 19: opening with a list of thresholds that is too short or too long
+    // 19: opening with a list of thresholds that is too short or too long, or with something past its end
     ListLength,
     // 20: with one that has an entry not above the one before, or more than twice it
     ListEntry,

@@ -54,8 +54,7 @@ impl State {
         if xs.len() == 0 {
             return self;
         }
-        let before = self.sums;
-        let mut moving = before.begin().step(by, xs[0]);
+        let mut moving = self.sums.begin().step(by, xs[0]);
         let count = list.count;
         let mut band = Band::lowest(&list.at, count).around(&list.at, count, moving.q);
         let counts = self.a;
@@ -79,17 +78,10 @@ impl State {
             );
             band = next;
         }
-        counters::finish(
-            &mut a,
-            &mut h,
-            &mut since,
-            band.below,
-            count,
-            at as u64,
-            by.i,
-        );
+        let end = at as u64;
+        counters::finish(&mut a, &mut h, &mut since, band.below, count, end, by.i);
         State {
-            sums: before.end(moving, xs.len()),
+            sums: self.sums.end(moving, xs.len()),
             a: plain::counts(a),
             h,
         }

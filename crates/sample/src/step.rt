@@ -30,11 +30,12 @@ impl Moving {
         let size = rectified(by.offset, x);
         let p = smoothed(by.k, self.p, size * INTERVAL);
         let q = smoothed(by.k, self.q, p);
+        // s comes last: in another order the compiler keeps a sum of the inner loop in memory.
         Moving {
-            s: added(self.s, x),
             sq: self.sq + size * size,
             p,
             q,
+            s: added(self.s, x),
         }
     }
 }

@@ -24,7 +24,7 @@ pub struct Setting {
 const USUAL_MARGIN: i64 = 21635;
 
 impl Setting {
-    // A rate code with no offset and the margin that P.56 names.
+    // A rate code with no offset, the margin that P.56 names and the built-in thresholds.
     pub fn usual(code: u32) -> Setting
         ensures { λ r. ⌜ r ≡ usualSetting code ⌝ }
     {

@@ -76,9 +76,7 @@ pub record Loaded (t : Thresholds) : Type 0 where
   pub least : fewest ≤ t .count
   pub most : t .count ≤ places
   pub rises : (j : ℕ) → j + 1 < t .count → thresholdOf t j < thresholdOf t (j + 1)
-  pub doubles : (j : ℕ) → j + 1 < t .count → thresholdOf t (j + 1) ≤ 2 * thresholdOf t j
   pub first-least : 2 ^ 22 ≤ thresholdOf t 0
-  pub last-most : thresholdOf t (t .count - 1) ≤ 2 ^ 39
   pub zero-past : (j : ℕ) → t .count ≤ j → j < places → thresholdOf t j ≡ 0
 
 abbrev pairAt : Thresholds → ℕ → Bool
@@ -98,21 +96,19 @@ past-in t u j l h =
     let n = neither (ltb places (t .count)) past (neither (ltb (t .count) fewest) (ltb places (t .count) || past) u .1) in
     omega (arith, ltb-false 0 (thresholdOf t j) (each-from (t .count) places (filled t) (n .1) j l h))
 
-entries-in : (t : Thresholds) → wrongEntry t ≡ false → (j : ℕ) → j + 1 < t .count → (thresholdOf t j < thresholdOf t (j + 1)) × (thresholdOf t (j + 1) ≤ 2 * thresholdOf t j)
+entries-in : (t : Thresholds) → wrongEntry t ≡ false → (j : ℕ) → j + 1 < t .count → thresholdOf t j < thresholdOf t (j + 1)
 unfolding wrongEntry
 entries-in t u j h =
     let x = thresholdOf t j in
     let y = thresholdOf t (j + 1) in
-    let n = neither (leb y x) (ltb (2 * x) y) (each-below (t .count - 1) (pairAt t) u j (omega arith)) in
-    (leb-false y x (n .0), ltb-false (2 * x) y (n .1))
+    leb-false y x (neither (leb y x) (ltb (2 * x) y) (each-below (t .count - 1) (pairAt t) u j (omega arith)) .0)
 
-ends-in : (t : Thresholds) → wrongEnd t ≡ false → (2 ^ 22 ≤ thresholdOf t 0) × (thresholdOf t (t .count - 1) ≤ 2 ^ 39)
+ends-in : (t : Thresholds) → wrongEnd t ≡ false → 2 ^ 22 ≤ thresholdOf t 0
 unfolding wrongEnd
 ends-in t u =
     let f = thresholdOf t 0 in
-    let l = thresholdOf t (t .count - 1) in
-    let n = neither (outside (2 ^ 22) (2 ^ 24) f) (outside (2 ^ 37) (2 ^ 39) l) u in
-    (ltb-false f (2 ^ 22) (neither (ltb f (2 ^ 22)) (ltb (2 ^ 24) f) (n .0) .0), ltb-false (2 ^ 39) l (neither (ltb l (2 ^ 37)) (ltb (2 ^ 39) l) (n .1) .1))
+    let n = neither (outside (2 ^ 22) (2 ^ 24) f) (outside (2 ^ 37) (2 ^ 39) (thresholdOf t (t .count - 1))) u in
+    ltb-false f (2 ^ 22) (neither (ltb f (2 ^ 22)) (ltb (2 ^ 24) f) (n .0) .0)
 
 pub loaded : (t : Thresholds) → unloadable t ≡ false → Loaded t
 unfolding unloadable
@@ -122,10 +118,8 @@ loaded t u =
     record {
       least = length-in t (n .0) .0;
       most = length-in t (n .0) .1;
-      rises = λ j h. entries-in t (m .0) j h .0;
-      doubles = λ j h. entries-in t (m .0) j h .1;
-      first-least = ends-in t (m .1) .0;
-      last-most = ends-in t (m .1) .1;
+      rises = entries-in t (m .0);
+      first-least = ends-in t (m .1);
       zero-past = past-in t (n .0);
     }
 

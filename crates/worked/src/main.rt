@@ -81,7 +81,7 @@ fn reported(lines: &mut [u8], used: usize, n: u64, squares: u64, a: [u64; PLACES
     print::report(lines, used, handed_in(n, squares, a).report())
 }
 
-// A meter at code 2, with the usual margin, whose other fields are zero.
+// A meter at code 2, with the usual margin and thresholds, whose other fields are zero.
 fn handed_in(n: u64, squares: u64, a: [u64; PLACES]) -> Meter {
     Meter {
         setting: Setting::usual(2),

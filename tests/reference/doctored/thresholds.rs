@@ -9,7 +9,7 @@ use crate::records::{Opening, Record};
 use crate::replay::{meter_line, report_line};
 use crate::setting::Setting;
 use crate::tally::Tally;
-use crate::thresholds::{placed, Thresholds};
+use crate::thresholds::{changed, doubled, placed, Thresholds};
 
 /// What breaks where refusal 2 would stop the meter shown, and none is reported on.
 const LOST: [&str; 2] = ["refusal 2 lets it pass", "a meter shown before it"];
@@ -51,17 +51,6 @@ fn quiet() -> List {
         ..USUAL
     };
     List::of_chunk(setting, &samples())
-}
-
-/// By doubling, so many thresholds from a first on.
-fn doubled(count: usize, first: u64) -> Vec<u64> {
-    (0..count).map(|j| first << j).collect()
-}
-
-/// A list with one threshold changed.
-fn changed(mut list: Vec<u64>, j: usize, threshold: u64) -> Vec<u64> {
-    list[j] = threshold;
-    list
 }
 
 /// A code, a margin and thresholds with the right answer to an opening; any other is refused.

@@ -10,7 +10,7 @@ use crate::records::{script, Opening, Record};
 use crate::setting::{marked, Setting};
 use crate::speech::finer::FINER;
 use crate::tally::Tally;
-use crate::thresholds::{placed, Thresholds};
+use crate::thresholds::{changed, doubled, placed, Thresholds};
 
 /// What a report at a margin has: the margin, L, A, C and F, the lower and the upper threshold, T.
 type Row = (i64, [i64; 4], usize, usize, u64);
@@ -30,17 +30,6 @@ pub fn thresholds(tally: &mut Tally) {
     quiet_speech(tally);
     bounds_below_zero(tally);
     lines(tally);
-}
-
-/// By doubling, so many thresholds from a first on.
-fn doubled(count: usize, first: u64) -> Vec<u64> {
-    (0..count).map(|j| first << j).collect()
-}
-
-/// A list with one threshold changed.
-fn changed(mut list: Vec<u64>, j: usize, threshold: u64) -> Vec<u64> {
-    list[j] = threshold;
-    list
 }
 
 /// Seven thresholds a unit apart from 2^22 on, then by doubling to 2^39: 24 in all.

@@ -132,10 +132,10 @@ pub fn check(rate: &Rate, seed: u64, printed: &str) -> Tally {
         return tally;
     };
     println!("{}", told(rate, "searched closely", &searched));
-    let off = |levels: &Levels| (levels.active - searched.active).abs();
+    let too_low = |levels: &Levels| searched.active - levels.active;
     let (name, levels) = built_in;
-    tally.shown(&told(rate, name, &levels), off(&levels) >= FAR);
+    tally.shown(&told(rate, name, &levels), too_low(&levels) >= FAR);
     let (name, levels) = finer;
-    tally.shown(&told(rate, name, &levels), off(&levels) <= NEAR);
+    tally.shown(&told(rate, name, &levels), too_low(&levels).abs() <= NEAR);
     tally
 }

@@ -29,16 +29,16 @@ use Rattle.sample.proofs.State.after.Statement.{statement}
 use Rattle.sample.proofs.State.after.Tie as tie
 
 abbrev Inv-loop : tie.InvT-loop
-Inv-loop by xs list before moving₀ count band₀ a₀ h₀ since₀ at₀ moving band a h since at =
-    Turning by list before a₀ h₀ xs a h since moving band at
+Inv-loop self by xs list moving₀ count band₀ a₀ h₀ since₀ at₀ moving band a h since at =
+    Turning by list (self .sums) a₀ h₀ xs a h since moving band at
 
 abbrev μ-loop : tie.MeasureT-loop
-μ-loop by xs list before moving₀ count band₀ a₀ h₀ since₀ at₀ moving band a h since at = length xs - at
+μ-loop self by xs list moving₀ count band₀ a₀ h₀ since₀ at₀ moving band a h since at = length xs - at
 
 -- ---- points of the code
 
 abbrev filled-at : tie.After-step Inv-loop μ-loop → tie.Else1 Inv-loop μ-loop
-filled-at c = c .before .before .before .before
+filled-at c = c .before .before .before
 
 abbrev start-at : tie.After-step Inv-loop μ-loop → tie.Start Inv-loop μ-loop
 start-at c = filled-at c .before
@@ -83,11 +83,11 @@ stepped : (c : tie.After-step Inv-loop μ-loop) → c .step .result ≡ moved (s
 stepped c = c .step .ensures ∙ ap₂ (moved _) (c .before .before .begin .ensures) (toZ-ofZ (first-fits c))
 
 shared-slice-copy-out-step : tie.Need-shared-slice-copy-out-step Inv-loop μ-loop
-shared-slice-copy-out-step c = some-sample (c .before .before)
+shared-slice-copy-out-step c = some-sample (c .before)
 
 step-requires : tie.Need-step-requires Inv-loop μ-loop
 step-requires c κs =
-    let f = c .before .before .before in
+    let f = c .before .before in
     record {
       k-max = f .before .pre .k-max;
       room = subst (Room 1) (sym (c .before .begin .ensures)) (room-less 1 _ _ (some-sample f) (room-at-first f));

@@ -22,7 +22,7 @@ abbrev start-at : tie.After-rectified → tie.Start
 start-at c = c .before .before
 
 abbrev rectified-at : tie.After-struct-told2 → tie.After-rectified
-rectified-at c = c .before .before .before
+rectified-at c = c .before .before .before .before
 
 -- the fields offset and s go to `rectified` and `added` as bits, and the numbers of those bits are offset and s again
 offset-back : (c : tie.After-rectified) → toZ w16 (ofZ w16 (start-at c .args .by .offset)) ≡ start-at c .args .by .offset
@@ -56,11 +56,11 @@ added-requires : tie.Need-added-requires
 added-requires c κs = subst Addable (sym (s-back c)) (s-room _ (start-at (rectified-at c) .pre .room .s-max))
 
 mul-t7 : tie.Need-mul-t7
-mul-t7 c = record { fits = square-fits _ (rectified-at (c .before) .rectified .ensures .small) }
+mul-t7 c = record { fits = square-fits _ (c .before .before .rectified .ensures .small) }
 
-add-t9 : tie.Need-add-t9
-add-t9 c =
-    let r = rectified-at (c .before .before) in
+add-t8 : tie.Need-add-t8
+add-t8 c =
+    let r = c .before .before .before in
     record { fits = sum-fits _ _ (start-at r .pre .room .sq-max) (r .rectified .ensures .small) }
 
 made : (by : Counting) (m : Moving) (o x x′ s s′ t : ℤ) (y p q : ℕ)
@@ -71,13 +71,13 @@ made by m o x x′ s s′ t y p q e1 e2 e3 e4 e5 e6 e7 e8 = cc
 
 returns : tie.Need-returns
 returns c =
-    let told = c .before .before in
-    let q = told .before in
+    let told = c .before in
+    let q = told .before .before in
     let r = rectified-at told in
     let s = start-at r in
     made (s .args .by) (s .args .self) _ (s .args .x) _ _ _ _ _ _ _
     (offset-back r) (toZ-ofZ (s .fits .x)) (s-back told) (r .rectified .ensures .is)
-    (toZ-ofZ (record { sfits = c .before .added .ok })) (c .before .added .ensures)
+    (toZ-ofZ (record { sfits = c .added .ok })) (c .added .ensures)
     (q .before .smoothed .ensures) (q .smoothed2 .ensures)
 
 pub step-spec : {M : Type 1} → statement M
@@ -88,7 +88,7 @@ step-spec =
     (λ c. search needs)
     (λ c κs. search needs)
     smoothed-requires-2
-    added-requires
     mul-t7
-    add-t9
+    add-t8
+    added-requires
     returns)
