@@ -2,14 +2,14 @@
 use mathlib.Core.Path.{sym, subst}
 use Rattle.block.proofs.Laws.{host-given}
 use Rattle.block.proofs.Made.{write-given, unwritten, afresh}
-use Rattle.thresholds.proofs.Laws.{built-in-is, built-in-past}
+use Rattle.thresholds.proofs.Laws.{built-in-is, built-in-past, loaded}
 use Rattle.crossing.proofs.BuiltIn.{built-in-level}
 use Rattle.meter.specs.Opened.{Fresh}
 use Rattle.meter.proofs.Laws.{open-given, chunk-given, block-given, report-given, refused-chunk, refused-block, report-meter, refused-report, refused-open, zeros-chunk, zeros-block, zeros-report, opened, fresh-fields, factor-never-above, percent-never-smaller, block-taken, block-samples, chunk-samples, empty-chunk}
 use Rattle.meter.proofs.Outcome.{answered}
 use Rattle.exact.specs.Claim.{Claim}
 use Rattle.exact.specs.Demands.{Demand1, Demand2}
-use Rattle.exact.proofs.Calls.{usual-opens}
+use Rattle.exact.proofs.Calls.{accepted-setting, usual-opens}
 use Rattle.exact.proofs.Crossings.{highest-lowest, unaffected}
 use Rattle.exact.proofs.Demand3.{demand3}
 use Rattle.exact.proofs.Lost.{nothing-lost, measured}
@@ -42,7 +42,7 @@ demand1 =
 demand2 : Demand2
 demand2 =
     record {
-      opened = λ c z. subst (Fresh c) (sym (opened c z)) (fresh-fields c);
+      opened = λ c z. subst (Fresh c) (sym (opened c z)) (fresh-fields c (loaded _ (accepted-setting c z .list) .most));
       measured = measured;
       no-offset = no-offset;
       any-margin = any-margin;

@@ -15,13 +15,13 @@ use Rattle.level.specs.Logarithm.{lev, levelOf}
 use Rattle.level.specs.Types.{mostSamples, activity, twoWords, words}
 use Rattle.level.proofs.Laws.{level-exists}
 use Rattle.rate.proofs.Laws.{zero-unnamed}
-use Rattle.thresholds.specs.Lists.{listRules}
 use Rattle.refusal.specs.First.{firstOf, NoneApplies, rising, Given, Lowest}
 use Rattle.refusal.proofs.Laws.{here, past, none, given-lowest}
 use Rattle.block.specs.Block.{samplesIn}
 use Rattle.block.specs.Refusals.{blockRules}
 use Rattle.sample.specs.Sample.{listFrom, freshState, stateAfter}
-use Rattle.thresholds.specs.Lists.{noList}
+use Rattle.thresholds.specs.Lists.{places, noList, listRules}
+use Rattle.thresholds.proofs.Places.{filled-with}
 use Rattle.crossing.proofs.Bounds.{Crossed, crossed, factor}
 use Rattle.percent.specs.Percent.{IsPercent}
 use Rattle.percent.proofs.Laws.{never-smaller}
@@ -86,13 +86,14 @@ pub opened : (c : Setting) → openCall c .number ≡ 0 → openCall c .meter �
 unfolding openCall
 opened c z = accepted _ _ _ z
 
-pub fresh-fields : (c : Setting) → Fresh c (fresh c)
+pub fresh-fields : (c : Setting) → c .thresholds .count ≤ places → Fresh c (fresh c)
 unfolding fresh freshState words listFrom
-fresh-fields c = record { setting = refl; n = refl; s = refl; high = refl; low = refl; P = refl; Q = refl; a = refl; h = refl }
+fresh-fields c few =
+    record { setting = refl; n = refl; s = refl; high = refl; low = refl; P = refl; Q = refl; a = refl; h = filled-with places (c .thresholds .count) _ few }
 
 zero-fields : Zeros zeroMeter
 unfolding zeroMeter freshState words listFrom noList
-zero-fields = record { setting = refl; n = refl; s = refl; high = refl; low = refl; P = refl; Q = refl; a = refl; h = refl }
+zero-fields = record { setting = refl; n = refl; s = refl; high = refl; low = refl; P = refl; Q = refl; a = refl; h = filled-with places 0 0 (omega arith) }
 
 pub refused-open : (c : Setting) → 0 < openCall c .number → Zeros (openCall c .meter)
 unfolding openCall

@@ -1,13 +1,13 @@
 -- Lists made from a function: what stands at each place.
 use mathlib.Core.Bool.{Bool, true, false}
-use mathlib.Core.List.{List, [], _∷_}
+use mathlib.Core.List.{List, [], _∷_, _++_}
 use mathlib.Core.Path.{_≡_, refl, sym, ap, ap₂, _∙_}
-use Prim.Native.Nat.{ℕ, zero, suc, _+_, _≤_, _<_}
+use Prim.Native.Nat.{ℕ, zero, suc, _+_, _-_, _≤_, _<_}
 use native.Mathlib.Nat.{add-zero, le-of-suc-le-suc, not-suc-le-zero, zero-add}
 use native.Mathlib.Omega.{arith}
 use borrow.Author.Tests.{eqb-true, eqb-false, lt-ltb, le-ltb, ltb-true, ltb-false}
 use lib.Dec.{eqb, ltb}
-use lib.ListN.{length, getD, set, length-set, List·getD-eq-default}
+use lib.ListN.{length, getD, set, replicate, length-set, length-append, length-replicate, List·getD-eq-default}
 use lib.Seq.{getD-set-same, getD-set-other}
 use Rattle.thresholds.specs.Places.{listFrom, each, upTo}
 
@@ -83,6 +83,28 @@ is-filled n k l f e g z = is-each 0 n l (upTo k f) e (λ i h. go i (ltb i k) ref
     go : (i : ℕ) (t : Bool) → ltb i k ≡ t → getD l i 0 ≡ upTo k f i
     go i true h = let b = ltb-true i k h in g i b ∙ sym (up-to-at k f i b)
     go i false h = let b = ltb-false i k h in z i b ∙ sym (up-to-past k f i b)
+
+-- a number k times, and zeros
+repeated-at : (k i x : ℕ) (l : List ℕ) → i < k → getD (replicate k x ++ l) i 0 ≡ x
+repeated-at zero i x l h = absurd (not-suc-le-zero h)
+repeated-at (suc k) zero x l h = refl
+repeated-at (suc k) (suc i) x l h = repeated-at k i x l (le-of-suc-le-suc h)
+
+zeros-at : (k i : ℕ) → getD {A = ℕ} (replicate k 0) i 0 ≡ 0
+zeros-at zero i = refl
+zeros-at (suc k) zero = refl
+zeros-at (suc k) (suc i) = zeros-at k i
+
+repeated-past : (k i m x : ℕ) → k ≤ i → getD {A = ℕ} (replicate k x ++ replicate m 0) i 0 ≡ 0
+repeated-past zero i m x h = zeros-at m i
+repeated-past (suc k) zero m x h = absurd (not-suc-le-zero h)
+repeated-past (suc k) (suc i) m x h = repeated-past k i m x (le-of-suc-le-suc h)
+
+pub filled-with : (n k x : ℕ) → k ≤ n → each n (upTo k (λ j. x)) ≡ replicate k x ++ replicate (n - k) 0
+filled-with n k x m =
+    sym (is-filled n k (replicate k x ++ replicate (n - k) 0) (λ j. x)
+    (omega (arith, length-append (replicate k x) (replicate (n - k) 0), length-replicate k x, length-replicate {A = ℕ} (n - k) 0))
+    (λ i h. repeated-at k i x _ h) (λ i h. repeated-past k i (n - k) x h))
 
 same-but-one : (f : ℕ → ℕ) (i j : ℕ) → (i ≡ j → ⊥) → (t : Bool) → ltb i j ≡ t → upTo j f i ≡ upTo (j + 1) f i
 same-but-one f i j q true t = let k = ltb-true i j t in up-to-at j f i k ∙ sym (up-to-at (j + 1) f i (omega arith))
