@@ -6,7 +6,6 @@ use super::line::Line;
 use super::told;
 use super::voice::Voice;
 use crate::float;
-use crate::generate::random::Random;
 use crate::measurement::{self, Levels};
 use crate::rate::Rate;
 use crate::setting::Setting;
@@ -80,12 +79,7 @@ pub const FINER: [u64; 24] = [
 fn samples(rate: &Rate, seed: u64) -> Vec<i16> {
     let mut voice = Voice::new(rate, seed);
     voice.phrases(SECONDS, 1.0, PAUSE.0, PAUSE.1);
-    let mut random = Random::new(!seed);
-    let noise = voice
-        .spoken
-        .iter()
-        .map(|_| (NOISE * random.gaussian()).round() as i16);
-    Line::new(&voice, noise.collect(), ENERGY).samples()
+    Line::in_noise(&voice, seed, NOISE, ENERGY).samples()
 }
 
 /// What is opened with: the built-in list, and the finer one.

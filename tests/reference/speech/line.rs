@@ -2,6 +2,7 @@
 
 use super::voice::Voice;
 use crate::float;
+use crate::generate::random::Random;
 
 /// What is on the line, speech and the rest apart, sample by sample.
 pub struct Line {
@@ -19,6 +20,15 @@ impl Line {
             speech: speech.collect(),
             rest,
         }
+    }
+
+    /// A voice in a seed's white noise, of so many quantizing intervals root mean square; the voice
+    /// of so much energy relative to it.
+    pub fn in_noise(voice: &Voice, seed: u64, noise: f64, energy: f64) -> Line {
+        let mut random = Random::new(!seed);
+        let heard = voice.spoken.iter();
+        let heard = heard.map(|_| (noise * random.gaussian()).round() as i16);
+        Line::new(voice, heard.collect(), energy)
     }
 
     /// Both together; what is too loud for 16 bits clips.

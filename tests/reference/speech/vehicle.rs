@@ -5,7 +5,6 @@ use super::line::Line;
 use super::voice::Voice;
 use super::{told, ACTIVE_BOUND};
 use crate::float;
-use crate::generate::random::Random;
 use crate::measurement::{self, Levels, STEP};
 use crate::rate::Rate;
 use crate::setting::Setting;
@@ -50,12 +49,7 @@ const FAR: f64 = 5.0;
 fn line(rate: &Rate, seed: u64) -> Line {
     let mut voice = Voice::new(rate, seed);
     voice.phrases(SECONDS, 1.0, PAUSE.0, PAUSE.1);
-    let mut random = Random::new(!seed);
-    let noise = voice
-        .spoken
-        .iter()
-        .map(|_| (NOISE * random.gaussian()).round() as i16);
-    Line::new(&voice, noise.collect(), ENERGY)
+    Line::in_noise(&voice, seed, NOISE, ENERGY)
 }
 
 /// What is opened with for a margin.
