@@ -525,7 +525,7 @@ table =
     -- and with the shortest list, and with the fine one
     ∷ played (listBy 1 shortest) run (ran (pos 21635) shortest ranCounts ranHangovers)
     ∷ played (listBy 1 fine) run (ran (pos 21635) fine (replicate 13 260 ++ (259 ∷ 258 ∷ 257 ∷ 256 ∷ 253 ∷ 249 ∷ 242 ∷ 229 ∷ 197 ∷ 146 ∷ 0 ∷ []))
-        (replicate 16 0 ++ (65 ∷ 82 ∷ 99 ∷ 117 ∷ 136 ∷ 139 ∷ 139 ∷ 139 ∷ [])))
+    (replicate 16 0 ++ (65 ∷ 82 ∷ 99 ∷ 117 ∷ 136 ∷ 139 ∷ 139 ∷ 139 ∷ [])))
     -- and at an offset, over the same calls
     ∷ played (offsetBy 1 (pos 300)) run (record {
       code = 1;
