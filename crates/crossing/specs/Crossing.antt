@@ -1,4 +1,4 @@
--- The crossing, and the active level at it: METHOD.md, "The report". M is the margin, S is lev(sq), and a the activity counts.
+-- The crossing, and the active level at it: METHOD.md, "The report". M is the margin, S is lev(sq), t the thresholds and a the activity counts.
 use mathlib.Core.Bool.{Bool, false, cond, _&&_, _||_}
 use mathlib.Core.List.{List}
 use mathlib.Core.Option.{Option, none, some}

@@ -1,4 +1,4 @@
--- The levels of a report, in steps: METHOD.md, "The report". M is the margin, S is lev(sq), and a the activity counts.
+-- The levels of a report, in steps: METHOD.md, "The report". M is the margin, S is lev(sq), t the thresholds and a the activity counts.
 use mathlib.Core.List.{List}
 use Prim.Native.Nat.{ℕ, _*_}
 use lib.IntN.{ℤ, pos, _-ℤ_}
@@ -20,7 +20,7 @@ activeAt S a j = S -ℤ pos (lev (activity a j))
 abbrev pub intervalSteps : ℕ
 intervalSteps = 196608
 
--- C_j = 2·lev(c_j) − 196608, for c_j in units: above 0 where c_j is above one interval, and below 0 where it is below
+-- C_j = 2·lev(c_j) − 196608, for c_j in units: below 0 where c_j is less than one interval, and only there
 unfoldable pub levelOfThreshold : (c : ℕ) → ℤ
 levelOfThreshold c = pos (2 * lev c) -ℤ pos intervalSteps
 

@@ -1,4 +1,4 @@
--- The levels at a crossing, and what the search for one finds: METHOD.md, "The report" and "Why a call is refused". M is the margin.
+-- The levels at a crossing, and what the search for one finds: METHOD.md, "The report" and "Why a call is refused". M is the margin, t the thresholds.
 use mathlib.Core.Bool.{cond}
 use mathlib.Core.List.{List}
 use mathlib.Core.Option.{Option, none, some}
