@@ -29,7 +29,7 @@ impl Comparison {
     fn new() -> Comparison {
         Comparison {
             exact: None,
-            setting: Setting::zero(),
+            setting: Setting::default(),
             shown: None,
             tally: Tally::new(),
         }
@@ -102,7 +102,7 @@ fn show(
     line: &str,
 ) -> Option<Meter> {
     let meter = printed::meter(line);
-    tally.holds(&format!("{name} 82 values"), meter.is_some());
+    tally.holds(&format!("{name} the values of a meter"), meter.is_some());
     let meter = meter?;
     let list = opened.thresholds.entries();
     let a = &meter.a[..list.len()];

@@ -3,9 +3,9 @@
 
 use crate::meter::Meter;
 use crate::rate::rate;
-use crate::records::{Opening, Record};
+use crate::records::Record;
 use crate::replay::played;
-use crate::setting::in_range;
+use crate::setting::{in_range, Opening};
 use crate::thresholds::{breaks_rise, wrong_end, wrong_length, zero_past, Thresholds, PLACES};
 use std::collections::BTreeSet;
 
@@ -29,7 +29,7 @@ fn lines(record: &Record, after: &Meter) -> Vec<String> {
 
 /// Each of 1, 17, 19, 20 and 21 that applies to an opening, by itself.
 fn faults(opening: &Opening) -> Vec<u32> {
-    let entries = opening.list.as_deref();
+    let entries = opening.thresholds.as_deref();
     let entries = entries.unwrap_or(Thresholds::BUILT_IN.entries());
     let rows = [
         (1, rate(u32::from(opening.code)).is_none()),
@@ -53,7 +53,7 @@ fn opened(opening: &Opening) -> Vec<String> {
     if r == 1 || r == 17 {
         return lines;
     }
-    let Some(list) = &opening.list else {
+    let Some(list) = &opening.thresholds else {
         lines.push(format!("open built-in {r}\n"));
         return lines;
     };

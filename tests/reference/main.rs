@@ -5,6 +5,9 @@
 
 #![allow(non_snake_case)]
 
+#[macro_use]
+mod fields;
+
 mod answer;
 mod big;
 mod block;
@@ -34,9 +37,11 @@ mod report;
 mod setting;
 mod speech;
 mod tally;
+mod text;
 mod thresholds;
 mod written;
 
+use records::Record;
 use speech::{finer, hum, vehicle};
 use std::io::{self, Read, Write};
 use std::num::NonZeroUsize;
@@ -46,7 +51,8 @@ use std::process::ExitCode;
 const BAD_RECORD: &str = "the script has a bad record";
 
 /// The commands.
-const COMMANDS: &str = "replay | report | host | generate KIND SEED COUNT | blocks CODE [K] | \
+const COMMANDS: &str = "replay | report | host | generate KIND SEED COUNT | records [host] | \
+    answers | values KIND NAME.. | blocks CODE [K] | \
     recorded CODE | noise D SEED | figures | exact | counts | samples | largest | crossed | \
     chosen | margins | listed | agrees SCRIPT OUTPUT | written SCRIPT OUTPUT | \
     cards SCRIPT OUTPUT SCRIPT OUTPUT | compared RECORDING OUTPUT RECORDING OUTPUT | \
@@ -76,6 +82,25 @@ fn lines(lines: Option<String>, message: &str) -> io::Result<bool> {
 /// An error with a message.
 fn error<T>(message: &str) -> io::Result<T> {
     Err(io::Error::other(message))
+}
+
+/// Text on standard input.
+fn input_text() -> io::Result<String> {
+    io::read_to_string(io::stdin())
+}
+
+/// What is made of a text, or an error with what is wrong with it.
+fn made<T>(made: Result<T, String>) -> io::Result<T> {
+    made.map_err(io::Error::other)
+}
+
+/// Writes the records of the text on standard input, each in this way.
+fn records(write: fn(&Record, &mut Vec<u8>)) -> io::Result<bool> {
+    let mut bytes = Vec::new();
+    for record in made(text::records(&input_text()?))? {
+        write(&record, &mut bytes);
+    }
+    output(&bytes)
 }
 
 /// Writes the records or the recording of one kind.
@@ -229,6 +254,12 @@ fn run(arguments: &[&str]) -> io::Result<bool> {
             "a record is cut short, or neither a check nor a write",
         ),
         ["generate", kind, seed, count] => generate(kind, seed, count),
+        ["records"] => records(Record::write),
+        ["records", "host"] => records(Record::write_for_host),
+        ["answers"] => output(made(text::answers(&input_text()?))?.as_bytes()),
+        ["values", kind, names @ ..] => {
+            output(made(text::values(kind, names, &input_text()?))?.as_bytes())
+        }
         ["blocks", code] => blocks(code, "1"),
         ["blocks", code, every] => blocks(code, every),
         ["recorded", code] => output(&measurement::recorded(rate_of(code)?, &input()?)),

@@ -14,50 +14,47 @@ pub const MOST_SAMPLES: u64 = 1 << 48;
 /// The most samples in a chunk (the customer's scope, "One sample").
 pub const MOST_IN_CHUNK: usize = 4096;
 
-/// What a meter holds (the customer's scope, "One sample"; the customer's requests L2, L5 and L8).
-#[derive(Clone, Debug, PartialEq)]
-pub struct Meter {
-    pub setting: Setting,
-    pub n: u64,
-    pub s: i64,
-    pub sq: u128,
-    pub P: u64,
-    pub Q: u64,
-    pub a: [u64; PLACES],
-    pub h: [u64; PLACES],
+fields! {
+    /// What a meter holds (the customer's scope, "One sample"; the customer's requests L2, L5 and
+    /// L8).
+    #[derive(Clone, Debug, Default, PartialEq)]
+    pub struct Meter {
+        setting: Setting,
+        n: u64,
+        s: i64,
+        sq: u128,
+        P: u64,
+        Q: u64,
+        a: [u64; PLACES],
+        h: [u64; PLACES],
+    }
 }
 
-/// What a report holds (the customer's scope, "The report"; the customer's requests L1, L5 and L8).
-#[derive(Clone, Debug, PartialEq)]
-pub struct Report {
-    pub n: u64,
-    pub s: i64,
-    pub sq: u128,
-    pub a: [u64; PLACES],
-    pub L: i64,
-    pub A: i64,
-    pub C: i64,
-    pub F: i64,
-    pub lower: usize,
-    pub upper: usize,
-    pub T: u64,
-    pub margin: i64,
-    pub mark: bool,
+fields! {
+    /// What a report holds (the customer's scope, "The report"; the customer's requests L1, L5 and
+    /// L8).
+    #[derive(Clone, Debug, Default, PartialEq)]
+    pub struct Report {
+        n: u64,
+        s: i64,
+        sq: u128,
+        a: [u64; PLACES],
+        L: i64,
+        A: i64,
+        C: i64,
+        F: i64,
+        lower: usize,
+        upper: usize,
+        T: u64,
+        margin: i64,
+        mark: bool,
+    }
 }
 
 impl Meter {
     /// The meter of all zeros (the customer's scope, "Why a call is refused").
     pub fn zero() -> Meter {
-        Meter {
-            setting: Setting::zero(),
-            n: 0,
-            s: 0,
-            sq: 0,
-            P: 0,
-            Q: 0,
-            a: [0; PLACES],
-            h: [0; PLACES],
-        }
+        Meter::default()
     }
 
     /// Opening: the fresh meter, which keeps what was chosen, or a refusal (the customer's scope,

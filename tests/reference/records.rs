@@ -1,22 +1,15 @@
 //! The records of a recorded list of calls, read and written; numbers are little-endian.
 
-mod opening;
-mod writing;
-
 use crate::block;
+use crate::fields::Value;
 use crate::meter::Meter;
-use crate::setting::Setting;
-use crate::thresholds::{Thresholds, PLACES};
-pub use opening::Opening;
-pub use writing::Writing;
+use crate::setting::{Opening, Setting};
+use std::fmt;
 
 /// How many bytes the code of a check or of a write has: in a script to play, and in one for the
 /// host written in C.
 const PLAYED_CODE: usize = 1;
 const HOST_CODE: usize = 4;
-
-/// The length of a list that stands for the built-in one, after which no threshold comes.
-const BUILT_IN: u16 = 65535;
 
 /// One record.
 pub enum Record {
@@ -31,15 +24,68 @@ pub enum Record {
     Write(Writing),
 }
 
+fields! {
+    /// What a block is written from, and the length of the buffer that is lent for it.
+    #[derive(Clone)]
+    pub struct Writing {
+        code: u32,
+        before: u64,
+        samples: Vec<i16>,
+        length: u16,
+    }
+}
+
+impl Writing {
+    /// A code, a number before, samples and a length.
+    pub fn new(code: u32, before: u64, samples: &[i16], length: u16) -> Writing {
+        Writing {
+            code,
+            before,
+            samples: samples.to_vec(),
+            length,
+        }
+    }
+}
+
+impl fmt::Display for Writing {
+    /// In words, with the number of samples for the samples.
+    fn fmt(&self, out: &mut fmt::Formatter) -> fmt::Result {
+        let (code, before) = (self.code, self.before);
+        let (count, length) = (self.samples.len(), self.length);
+        write!(
+            out,
+            "code {code}, {before} before, {count} samples, {length} bytes"
+        )
+    }
+}
+
 /// Bytes read from the front; each reading is None where they are cut short.
 pub struct Reader<'a> {
     rest: &'a [u8],
+    pub code_length: usize,
+}
+
+/// Bytes written so far.
+pub struct Writer {
+    pub bytes: Vec<u8>,
+    pub code_length: usize,
 }
 
 impl<'a> Reader<'a> {
-    /// A reader at the front of all the bytes.
+    /// A reader at the front of a script to play.
     pub fn new(bytes: &'a [u8]) -> Reader<'a> {
-        Reader { rest: bytes }
+        Reader {
+            rest: bytes,
+            code_length: PLAYED_CODE,
+        }
+    }
+
+    /// A reader at the front of a script for the host.
+    pub fn of_host(bytes: &'a [u8]) -> Reader<'a> {
+        Reader {
+            rest: bytes,
+            code_length: HOST_CODE,
+        }
     }
 
     /// Whether every byte is read.
@@ -48,7 +94,7 @@ impl<'a> Reader<'a> {
     }
 
     /// The next bytes.
-    fn take(&mut self, length: usize) -> Option<&'a [u8]> {
+    pub fn take(&mut self, length: usize) -> Option<&'a [u8]> {
         if length > self.rest.len() {
             return None;
         }
@@ -57,141 +103,28 @@ impl<'a> Reader<'a> {
         Some(taken)
     }
 
-    /// A number of up to eight bytes.
-    pub fn number(&mut self, length: usize) -> Option<u64> {
-        let bytes = self.take(length)?;
-        Some(
-            bytes
-                .iter()
-                .rev()
-                .fold(0, |number, &byte| 256 * number + u64::from(byte)),
-        )
-    }
-
-    /// A number of two words, the high one first.
-    fn two_words(&mut self) -> Option<u128> {
-        let high = self.number(8)?;
-        let low = self.number(8)?;
-        Some((u128::from(high) << 64) + u128::from(low))
-    }
-
-    /// So many numbers of eight bytes.
-    fn numbers(&mut self, count: usize) -> Option<Vec<u64>> {
-        (0..count).map(|_| self.number(8)).collect()
-    }
-
-    /// A number of eight bytes for each place.
-    fn places(&mut self) -> Option<[u64; PLACES]> {
-        self.numbers(PLACES)?.try_into().ok()
-    }
-
-    /// A length of two bytes and that many bytes.
-    pub fn bytes(&mut self) -> Option<Vec<u8>> {
-        let length = self.number(2)?;
-        Some(self.take(length as usize)?.to_vec())
-    }
-
-    /// A sample, or an offset, which is any sample value.
-    fn sample(&mut self) -> Option<i16> {
-        Some(self.number(2)? as u16 as i16)
-    }
-
-    /// So many samples.
-    fn samples(&mut self, count: u64) -> Option<Vec<i16>> {
-        (0..count).map(|_| self.sample()).collect()
-    }
-
-    /// A count of two bytes and that many samples.
-    fn chunk(&mut self) -> Option<Vec<i16>> {
-        let count = self.number(2)?;
-        self.samples(count)
-    }
-
-    /// A length of two bytes and so many thresholds; None within where it is the built-in list.
-    fn list(&mut self) -> Option<Option<Vec<u64>>> {
-        match self.number(2)? as u16 {
-            BUILT_IN => Some(None),
-            length => Some(Some(self.numbers(usize::from(length))?)),
-        }
-    }
-
-    /// What an opening is given.
-    fn opening(&mut self) -> Option<Opening> {
-        Some(Opening {
-            code: self.number(1)? as u8,
-            offset: self.sample()?,
-            margin: self.number(8)? as i64,
-            list: self.list()?,
-        })
-    }
-
-    /// What a meter keeps of its opening, with which its values begin.
-    fn setting(&mut self) -> Option<Setting> {
-        Some(Setting {
-            code: self.number(1)? as u8,
-            offset: self.sample()?,
-            margin: self.number(8)? as i64,
-            thresholds: Thresholds {
-                length: self.number(8)?,
-                places: self.places()?,
-            },
-        })
-    }
-
-    /// The 82 values of a meter.
-    fn meter(&mut self) -> Option<Meter> {
-        Some(Meter {
-            setting: self.setting()?,
-            n: self.number(8)?,
-            s: self.number(8)? as i64,
-            sq: self.two_words()?,
-            P: self.number(8)?,
-            Q: self.number(8)?,
-            a: self.places()?,
-            h: self.places()?,
-        })
-    }
-
-    /// What a block is written from, with a code of so many bytes, and the length of the buffer.
-    fn writing(&mut self, code_length: usize) -> Option<Writing> {
-        Some(Writing {
-            code: self.number(code_length)? as u32,
-            before: self.number(8)?,
-            samples: self.chunk()?,
-            length: self.number(2)? as u16,
-        })
-    }
-
-    /// A check or a write, with a code of so many bytes; None also where it is of another kind.
-    fn host_call(&mut self, kind: u64, code_length: usize) -> Option<Record> {
-        match kind {
-            8 => {
-                let code = self.number(code_length)? as u32;
-                Some(Record::Check(code, self.bytes()?))
-            }
-            9 => Some(Record::Write(self.writing(code_length)?)),
+    /// One record; None also where the first byte is unknown.
+    pub fn record(&mut self) -> Option<Record> {
+        match u8::read(self)? {
+            1 => Some(Record::Open(Value::read(self)?)),
+            2 => Some(Record::Chunk(Value::read(self)?)),
+            3 => Some(Record::Block(Value::read(self)?)),
+            4 => Some(Record::Report),
+            5 => Some(Record::Load(Value::read(self)?)),
+            6 => Some(Record::Show),
+            7 => Some(Record::Lev(Value::read(self)?)),
+            8 => Some(Record::Check(Value::read(self)?, Value::read(self)?)),
+            9 => Some(Record::Write(Value::read(self)?)),
             _ => None,
         }
     }
+}
 
-    /// One record for the host; None also where it is neither a check nor a write.
-    pub fn host_record(&mut self) -> Option<Record> {
-        let kind = self.number(1)?;
-        self.host_call(kind, HOST_CODE)
-    }
-
-    /// One record; None also where the first byte is unknown.
-    fn record(&mut self) -> Option<Record> {
-        match self.number(1)? {
-            1 => Some(Record::Open(self.opening()?)),
-            2 => Some(Record::Chunk(self.chunk()?)),
-            3 => Some(Record::Block(self.bytes()?)),
-            4 => Some(Record::Report),
-            5 => Some(Record::Load(self.meter()?)),
-            6 => Some(Record::Show),
-            7 => Some(Record::Lev(self.two_words()?)),
-            kind => self.host_call(kind, PLAYED_CODE),
-        }
+impl Writer {
+    /// Writes the kind of a record.
+    fn kind(&mut self, kind: u8) -> &mut Writer {
+        self.bytes.push(kind);
+        self
     }
 }
 
@@ -210,9 +143,8 @@ pub fn read(bytes: &[u8]) -> (Vec<Record>, bool) {
 
 /// The samples of a recording, which is nothing but samples; None where the last is cut short.
 pub fn read_samples(bytes: &[u8]) -> Option<Vec<i16>> {
-    let mut reader = Reader::new(bytes);
-    let samples = reader.samples(bytes.len() as u64 / 2)?;
-    reader.at_end().then_some(samples)
+    let sample = |bytes: &[u8]| Some(i16::from_le_bytes(bytes.try_into().ok()?));
+    bytes.chunks(2).map(sample).collect()
 }
 
 /// The block calls of a recording of blocks; a short last block counts as one, as it is.
@@ -221,87 +153,9 @@ pub fn block_calls(recording: &[u8]) -> impl Iterator<Item = Record> + '_ {
     blocks.map(|bytes| Record::Block(bytes.to_vec()))
 }
 
-/// The high and the low word of a number.
-pub fn words(number: u128) -> (u64, u64) {
-    ((number >> 64) as u64, number as u64)
-}
-
-/// Writes a length of two bytes and the bytes.
-fn write_bytes(bytes: &[u8], out: &mut Vec<u8>) {
-    out.extend((bytes.len() as u16).to_le_bytes());
-    out.extend(bytes);
-}
-
 /// Writes samples, two bytes each.
 pub fn write_samples(samples: &[i16], out: &mut Vec<u8>) {
     out.extend(samples.iter().flat_map(|x| x.to_le_bytes()));
-}
-
-/// Writes a count of two bytes and the samples.
-fn write_chunk(samples: &[i16], out: &mut Vec<u8>) {
-    out.extend((samples.len() as u16).to_le_bytes());
-    write_samples(samples, out);
-}
-
-/// Writes a number of two words, the high one first.
-fn write_words(number: u128, out: &mut Vec<u8>) {
-    let (high, low) = words(number);
-    out.extend(high.to_le_bytes());
-    out.extend(low.to_le_bytes());
-}
-
-/// Writes numbers of eight bytes.
-fn write_numbers<'a>(numbers: impl IntoIterator<Item = &'a u64>, out: &mut Vec<u8>) {
-    out.extend(numbers.into_iter().flat_map(|number| number.to_le_bytes()));
-}
-
-/// Writes a length of two bytes and so many thresholds, or that of the built-in list alone.
-fn write_list(list: Option<&[u64]>, out: &mut Vec<u8>) {
-    let length = list.map_or(BUILT_IN, |entries| entries.len() as u16);
-    out.extend(length.to_le_bytes());
-    write_numbers(list.unwrap_or_default(), out);
-}
-
-/// Writes a code, an offset and a margin.
-fn write_choice(code: u8, offset: i16, margin: i64, out: &mut Vec<u8>) {
-    out.push(code);
-    out.extend(offset.to_le_bytes());
-    out.extend(margin.to_le_bytes());
-}
-
-/// Writes what an opening is given.
-fn write_opening(opening: &Opening, out: &mut Vec<u8>) {
-    write_choice(opening.code, opening.offset, opening.margin, out);
-    write_list(opening.list.as_deref(), out);
-}
-
-/// Writes the 82 values of a meter.
-fn write_meter(meter: &Meter, out: &mut Vec<u8>) {
-    let setting = &meter.setting;
-    write_choice(setting.code, setting.offset, setting.margin, out);
-    write_numbers([&setting.thresholds.length], out);
-    write_numbers(&setting.thresholds.places, out);
-    out.extend(meter.n.to_le_bytes());
-    out.extend(meter.s.to_le_bytes());
-    write_words(meter.sq, out);
-    write_numbers([&meter.P, &meter.Q], out);
-    write_numbers(meter.a.iter().chain(&meter.h), out);
-}
-
-/// Writes a code of so many bytes, which hold it.
-fn write_code(code: u32, length: usize, out: &mut Vec<u8>) {
-    let bytes = code.to_le_bytes();
-    let held = bytes[length..].iter().all(|&byte| byte == 0);
-    assert!(held, "code {code} in {length} bytes");
-    out.extend(&bytes[..length]);
-}
-
-/// Writes what a block is written from, with a code of so many bytes, and the length of the buffer.
-fn write_writing(writing: &Writing, code_length: usize, out: &mut Vec<u8>) {
-    write_code(writing.code, code_length, out);
-    out.extend(writing.before.to_le_bytes());
-    write_chunk(&writing.samples, out);
-    out.extend(writing.length.to_le_bytes());
 }
 
 impl Record {
@@ -322,39 +176,23 @@ impl Record {
 
     /// Writes the record, the code of a check or of a write in so many bytes.
     fn write_coded(&self, code_length: usize, out: &mut Vec<u8>) {
+        let bytes = std::mem::take(out);
+        let mut writer = Writer { bytes, code_length };
         match self {
-            Record::Open(opening) => {
-                out.push(1);
-                write_opening(opening, out);
-            }
-            Record::Chunk(samples) => {
-                out.push(2);
-                write_chunk(samples, out);
-            }
-            Record::Block(bytes) => {
-                out.push(3);
-                write_bytes(bytes, out);
-            }
-            Record::Report => out.push(4),
-            Record::Load(meter) => {
-                out.push(5);
-                write_meter(meter, out);
-            }
-            Record::Show => out.push(6),
-            Record::Lev(number) => {
-                out.push(7);
-                write_words(*number, out);
-            }
+            Record::Open(opening) => opening.write(writer.kind(1)),
+            Record::Chunk(samples) => samples.write(writer.kind(2)),
+            Record::Block(bytes) => bytes.write(writer.kind(3)),
+            Record::Report => writer.bytes.push(4),
+            Record::Load(meter) => meter.write(writer.kind(5)),
+            Record::Show => writer.bytes.push(6),
+            Record::Lev(number) => number.write(writer.kind(7)),
             Record::Check(code, bytes) => {
-                out.push(8);
-                write_code(*code, code_length, out);
-                write_bytes(bytes, out);
+                code.write(writer.kind(8));
+                bytes.write(&mut writer);
             }
-            Record::Write(writing) => {
-                out.push(9);
-                write_writing(writing, code_length, out);
-            }
+            Record::Write(writing) => writing.write(writer.kind(9)),
         }
+        *out = writer.bytes;
     }
 }
 

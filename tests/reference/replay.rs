@@ -1,10 +1,10 @@
 //! Replay: recorded calls, made again, with a line for each.
 
 use crate::block;
+use crate::fields::Value;
 use crate::level::lev;
 use crate::meter::{Meter, Report};
-use crate::records::{read, words, Record, Writing};
-use crate::setting::Setting;
+use crate::records::{read, Record, Writing};
 
 /// The byte of which a lent buffer is full before a block is written into it.
 pub const FILL: u8 = 165;
@@ -76,46 +76,20 @@ pub fn write_line(r: u32, buffer: &[u8]) -> String {
 
 /// The line of a report, with all that it holds, or of its refusal.
 pub fn report_line(answer: &Result<Report, u32>) -> String {
-    let report = match answer {
-        Ok(report) => report,
-        Err(r) => return format!("report {r}"),
-    };
-    let (high, low) = words(report.sq);
-    let counts = report.a.map(|a_j| a_j.to_string()).join(" ");
-    format!(
-        "report 0 {} {} {high} {low} {counts} {} {} {} {} {} {} {} {} {}",
-        report.n,
-        report.s,
-        report.L,
-        report.A,
-        report.C,
-        report.F,
-        report.lower,
-        report.upper,
-        report.T,
-        report.margin,
-        u8::from(report.mark)
-    )
+    match answer {
+        Ok(report) => format!("report 0{}", spaced(report)),
+        Err(r) => format!("report {r}"),
+    }
 }
 
-/// The line of a show: the 82 values.
+/// The line of a show: the values of a meter.
 pub fn meter_line(meter: &Meter) -> String {
-    let Setting {
-        code,
-        offset,
-        margin,
-        thresholds,
-    } = meter.setting;
-    let (high, low) = words(meter.sq);
-    let list = [thresholds.length].into_iter().chain(thresholds.places);
-    let mut line = format!("meter {code} {offset} {margin}{}", spaced(list));
-    line += &format!(" {} {} {high} {low}", meter.n, meter.s);
-    let rest = [meter.P, meter.Q].into_iter().chain(meter.a).chain(meter.h);
-    line + &spaced(rest)
+    format!("meter{}", spaced(meter))
 }
 
-/// Numbers, each after a space.
-fn spaced(numbers: impl Iterator<Item = u64>) -> String {
+/// The numbers of a value, each after a space.
+pub fn spaced(value: &impl Value) -> String {
+    let numbers = value.numbers().into_iter();
     numbers.map(|number| format!(" {number}")).collect()
 }
 

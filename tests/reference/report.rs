@@ -3,7 +3,6 @@
 use crate::block;
 use crate::meter::{Meter, Report};
 use crate::rate::{Rate, RATES};
-use crate::records::words;
 use crate::setting::Setting;
 
 /// The rate it measures at, code 1 (the customer's scope, "Worked figures").
@@ -30,7 +29,7 @@ pub fn report(input: &[u8]) -> String {
 /// The lines at the end: five (the customer's scope, "Worked figures"), and one more after a level
 /// (the customer's request L1).
 fn measurement(meter: &Meter) -> String {
-    let (high, low) = words(meter.sq);
+    let (high, low) = (meter.sq >> 64, meter.sq as u64);
     let counts: Vec<String> = meter.places().map(|j| meter.a[j].to_string()).collect();
     let counts = counts.join(" ");
     let last = match meter.report() {

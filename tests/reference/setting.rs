@@ -14,27 +14,22 @@ pub const MARKED_BELOW: i64 = 20955;
 /// The margin of the scope, in steps: 15.9 dB (the customer's scope, "The report").
 pub const USUAL_MARGIN: i64 = 21635;
 
-/// A rate code, an offset, a margin and a list of thresholds (the customer's scope, "One sample";
-/// the customer's requests L2, L5 and L8).
-#[derive(Clone, Copy, Debug, PartialEq)]
-pub struct Setting {
-    pub code: u8,
-    pub offset: i16,
-    pub margin: i64,
-    pub thresholds: Thresholds,
+fields! {
+    /// A rate code, an offset, a margin and a list of thresholds (the customer's scope, "One
+    /// sample"; the customer's requests L2, L5 and L8).
+    #[derive(Clone, Copy, Debug, Default, PartialEq)]
+    pub struct Setting<List = Thresholds> {
+        code: u8,
+        offset: i16,
+        margin: i64,
+        thresholds: List,
+    }
 }
 
-impl Setting {
-    /// What the meter of all zeros has (the customer's scope, "Why a call is refused").
-    pub const fn zero() -> Setting {
-        Setting {
-            code: 0,
-            offset: 0,
-            margin: 0,
-            thresholds: Thresholds::NONE,
-        }
-    }
+/// What an opening is given: a list of any length, or none for the built-in one.
+pub type Opening = Setting<Option<Vec<u64>>>;
 
+impl Setting {
     /// A code with no offset, the usual margin and the built-in list, as the report program opens
     /// (the customer's requests L2, L5 and L8).
     pub const fn usual(code: u8) -> Setting {
@@ -56,6 +51,40 @@ impl Setting {
         } else {
             self.thresholds.refusal()
         }
+    }
+}
+
+impl<List> Setting<List> {
+    /// The same but for the list, which may be of another kind.
+    fn with<Other>(self, thresholds: Other) -> Setting<Other> {
+        Setting {
+            code: self.code,
+            offset: self.offset,
+            margin: self.margin,
+            thresholds,
+        }
+    }
+}
+
+impl Opening {
+    /// What the meter is opened with.
+    pub fn setting(&self) -> Setting {
+        let own = self.thresholds.as_deref().map(Thresholds::of);
+        self.clone().with(own.unwrap_or(Thresholds::BUILT_IN))
+    }
+
+    /// The same opening with its list written out, the built-in one too.
+    pub fn written_out(self) -> Opening {
+        let thresholds = Some(self.setting().thresholds.entries().to_vec());
+        self.with(thresholds)
+    }
+}
+
+impl From<Setting> for Opening {
+    /// The opening with a setting whose list has a place for each of its thresholds.
+    fn from(setting: Setting) -> Opening {
+        let own = setting.thresholds != Thresholds::BUILT_IN;
+        setting.with(own.then(|| setting.thresholds.entries().to_vec()))
     }
 }
 

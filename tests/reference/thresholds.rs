@@ -1,6 +1,7 @@
 //! The thresholds of a meter: a list of the customer's choosing, or the built-in one (the
 //! customer's request L8).
 
+use crate::fields::Value;
 use crate::level::steps;
 use std::ops::RangeInclusive;
 
@@ -15,22 +16,24 @@ pub const LENGTHS: RangeInclusive<u64> = 14..=24;
 pub const FIRST: RangeInclusive<u64> = 1 << 22..=1 << 24;
 pub const LAST: RangeInclusive<u64> = 1 << 37..=1 << 39;
 
-/// A list: its length, and a threshold in units at each place, 0 past its end (the customer's
-/// request L8). In a meter that is handed in the length is any number, and so is what stands past
-/// the end.
-#[derive(Clone, Copy, Debug, PartialEq)]
-pub struct Thresholds {
-    pub length: u64,
-    pub places: [u64; PLACES],
+fields! {
+    /// A list: its length, and a threshold in units at each place, 0 past its end (the customer's
+    /// request L8). In a meter that is handed in the length is any number, and so is what stands
+    /// past the end. A text has the thresholds alone.
+    #[derive(Clone, Copy, Debug, Default, PartialEq)]
+    pub struct Thresholds {
+        length: u64,
+        places: [u64; PLACES],
+    }
+    of listed
+}
+
+/// The list of these numbers.
+fn listed(numbers: &[i128]) -> Option<Thresholds> {
+    Some(Thresholds::of(&Vec::of(numbers)?))
 }
 
 impl Thresholds {
-    /// No list, as the meter of all zeros has it (the customer's scope, "Why a call is refused").
-    pub const NONE: Thresholds = Thresholds {
-        length: 0,
-        places: [0; PLACES],
-    };
-
     /// The built-in list, doubled out: c_j is 2^(j + 24) for j from 0 to 14 (the customer's scope,
     /// "One sample").
     pub const BUILT_IN: Thresholds = {

@@ -150,7 +150,11 @@ fn meters(tally: &mut Tally, list: &List) {
 fn values(tally: &mut Tally, list: &List) {
     let shown = meter_line(&list.meter);
     let less = shown.replace("meter 1 0 20000 ", "meter 1 0 ");
-    list.breaks_shown(tally, &less, &["82 values", "a meter shown before it"]);
+    list.breaks_shown(
+        tally,
+        &less,
+        &["the values of a meter", "a meter shown before it"],
+    );
     let exchanged = shown.replace("meter 1 0 20000 ", "meter 1 20000 0 ");
     list.breaks_shown(tally, &exchanged, &[&["offset"][..], &LOST].concat());
     let reported = report_line(&list.meter.report());

@@ -156,5 +156,9 @@ fn refused(tally: &mut Tally, list: &List) {
 /// A meter shown without its offset.
 fn values(tally: &mut Tally, list: &List) {
     let shown = meter_line(&list.meter).replace("meter 1 -20000 ", "meter 1 ");
-    list.breaks_shown(tally, &shown, &["82 values", "a meter shown before it"]);
+    list.breaks_shown(
+        tally,
+        &shown,
+        &["the values of a meter", "a meter shown before it"],
+    );
 }

@@ -5,11 +5,11 @@ use super::{List, USUAL};
 use crate::compare::agrees;
 use crate::meter::{Meter, Report};
 use crate::rate::RATES;
-use crate::records::{Opening, Record};
-use crate::replay::{meter_line, report_line};
-use crate::setting::Setting;
+use crate::records::Record;
+use crate::replay::{meter_line, report_line, spaced};
+use crate::setting::{Opening, Setting};
 use crate::tally::Tally;
-use crate::thresholds::{changed, doubled, placed, Thresholds};
+use crate::thresholds::{changed, doubled, placed, Thresholds, PLACES};
 
 /// What breaks where refusal 2 would stop the meter shown, and none is reported on.
 const LOST: [&str; 2] = ["refusal 2 lets it pass", "a meter shown before it"];
@@ -90,7 +90,7 @@ fn answered(tally: &mut Tally, code: u8, margin: i64, list: Vec<u64>, right: u32
         code,
         offset: 0,
         margin,
-        list: Some(list),
+        thresholds: Some(list),
     };
     Record::Open(opening).write(&mut script);
     for r in ANSWERS {
@@ -232,13 +232,18 @@ fn levels(tally: &mut Tally, list: &List) {
 /// A meter shown without its list, or with fifteen places for everything; levels as unsigned
 /// numbers.
 fn values(tally: &mut Tally, list: &List) {
-    let none = [&["82 values"][..], &LOST[1..]].concat();
+    let none = [&["the values of a meter"][..], &LOST[1..]].concat();
     let shown = meter_line(&list.meter);
-    let words: Vec<&str> = shown.split(' ').collect();
-    let without = [&words[..4], &words[29..]].concat().join(" ");
+    let Meter { setting, a, h, .. } = &list.meter;
+    let without = shown.replace(&spaced(&setting.thresholds), "");
     list.breaks_shown(tally, &without, &none);
-    let fifteen = [&words[..20], &words[29..50], &words[59..74]].concat();
-    list.breaks_shown(tally, &fifteen.join(" "), &none);
+    let cut = |line: String, places: &[u64; PLACES]| {
+        line.replace(&spaced(places), &spaced(&places[..15].to_vec()))
+    };
+    let fifteen = [&setting.thresholds.places, a, h]
+        .into_iter()
+        .fold(shown, cut);
+    list.breaks_shown(tally, &fifteen, &none);
     let report = list.meter.report().expect("a crossing");
     let line = report_line(&Ok(report.clone()));
     let unsigned = line.replace(

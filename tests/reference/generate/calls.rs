@@ -16,8 +16,8 @@ use crate::block;
 use crate::meter::{Meter, MOST_IN_CHUNK, MOST_SAMPLES};
 use crate::percent::{difference, WHOLE};
 use crate::rate::rate;
-use crate::records::{Opening, Record};
-use crate::setting::Setting;
+use crate::records::Record;
+use crate::setting::{Opening, Setting};
 use crate::thresholds::Thresholds;
 
 /// A script of about so many records: openings at the bounds of the margin and of the list, the

@@ -10,8 +10,8 @@ use super::signals::{
 use super::spacing;
 use crate::meter::Meter;
 use crate::rate::{Rate, RATES};
-use crate::records::{Opening, Record};
-use crate::setting::{Setting, USUAL_MARGIN};
+use crate::records::Record;
+use crate::setting::{Opening, Setting, USUAL_MARGIN};
 use crate::speech::voice;
 use crate::thresholds::Thresholds;
 use std::iter;
@@ -199,7 +199,7 @@ fn refused_openings(script: &mut Script, named: u8, turn: u64) {
             ..right.clone()
         };
         let [of_list, of_both] = [&right, &of_margin].map(|opening| Opening {
-            list: list.clone(),
+            thresholds: list.clone(),
             ..opening.clone()
         });
         let all = [right, of_margin, of_list, of_both].into_iter();

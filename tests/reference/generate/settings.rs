@@ -4,8 +4,9 @@
 use super::random::Random;
 use super::spacing::{self, thresholds};
 use crate::meter::Meter;
-use crate::records::Opening;
-use crate::setting::{in_range, Setting, LEAST_MARGIN, MARKED_BELOW, MOST_MARGIN, USUAL_MARGIN};
+use crate::setting::{
+    in_range, Opening, Setting, LEAST_MARGIN, MARKED_BELOW, MOST_MARGIN, USUAL_MARGIN,
+};
 
 /// Margins to accept: at the bounds of the range and of the mark, next to them, and the usual one.
 pub const MARGINS: [i64; 8] = [
@@ -85,8 +86,10 @@ pub fn refused_opening(random: &mut Random, code: u8) -> Opening {
         let margin = refused_margin(random);
         return Opening { margin, ..opening };
     }
-    let list = Some(spacing::refused(random));
-    Opening { list, ..opening }
+    Opening {
+        thresholds: Some(spacing::refused(random)),
+        ..opening
+    }
 }
 
 /// Openings with each choice of the numbers that apply, 1, 17, 19, 20 and 21, none of them among
@@ -101,7 +104,7 @@ pub fn faulty_openings(random: &mut Random, named: u8) -> Vec<Opening> {
         let list = spacing::with_faults(random, fault(2), fault(3), fault(4));
         Opening {
             margin,
-            list: Some(list),
+            thresholds: Some(list),
             ..Opening::from(setting)
         }
     };
