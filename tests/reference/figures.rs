@@ -1,5 +1,6 @@
-//! The worked figures, and a few further ones; wrong answers that the check of demand 3 and those
-//! of the customer's requests L6 and L7 refuse.
+//! What the reference is held to beside the worked figures of tests/figures: figures of what no
+//! record asks for, rules that hold over many of them, and wrong answers that the check of demand 3
+//! and those of the customer's requests L6 and L7 refuse.
 
 mod cards;
 mod crossings;
@@ -13,26 +14,18 @@ mod writes;
 
 use crate::block;
 use crate::doctored::doctored;
-use crate::level::lev;
 use crate::meter::{Meter, Report};
 use crate::percent;
 use crate::rate::RATES;
 use crate::report::report;
 use crate::setting::Setting;
 use crate::tally::Tally;
-use crate::thresholds::placed;
 
 /// Every figure; whether none failed.
 pub fn figures() -> bool {
     let mut tally = Tally::new();
     rates(&mut tally);
-    levels(&mut tally);
-    samples(&mut tally);
-    reports(&mut tally);
-    bounds(&mut tally);
     program(&mut tally);
-    exact_threshold(&mut tally);
-    further_report(&mut tally);
     percentages(&mut tally);
     percentage_never_falls(&mut tally);
     percentage_is_near(&mut tally);
@@ -65,40 +58,6 @@ fn rates(tally: &mut Tally) {
             rate.keeps_time_constant(),
         );
     }
-}
-
-/// The rows of lev (the customer's scope, "Worked figures"), and the edges of its range.
-fn levels(tally: &mut Tally) {
-    let rows = [
-        (1, 0),
-        (2, 4096),
-        (3, 6492),
-        (5, 9510),
-        (7, 11498),
-        (10, 13606),
-        ((1 << 32) - 1, 131071),
-        (1 << 78, 319488),
-        (1 << 80, 327680),
-    ];
-    for (N, level) in rows {
-        tally.equal(&format!("lev({N})"), lev(N), Some(level));
-    }
-    for N in [0, (1 << 80) + 1, u128::MAX] {
-        tally.equal(&format!("lev({N})"), lev(N), None);
-    }
-}
-
-/// The rows of one sample (the customer's scope, "Worked figures").
-fn samples(tally: &mut Tally) {
-    let (meter, r) = Meter::open(Setting::usual(2)).0.chunk(&[32767]);
-    tally.equal(
-        "32767 at code 2",
-        (r, meter.P, meter.Q),
-        (0, 2285825920, 9504509),
-    );
-    tally.equal("32767 at code 2, report", meter.report(), Err(14));
-    let (meter, r) = Meter::open(Setting::usual(2)).0.chunk(&[-1]);
-    tally.equal("-1 at code 2", (r, meter.P, meter.Q), (0, 69760, 290));
 }
 
 /// A meter handed in at code 2, its first a_j given (the customer's scope, "Worked figures"), with
@@ -139,36 +98,6 @@ fn report_with(
     }
 }
 
-/// The rows of reports (the customer's scope, "Worked figures"), with their T.
-fn reports(tally: &mut Tally) {
-    let full = handed_in(16384, 1 << 30, &[4096; 8]);
-    let mut half = full.clone();
-    half.a[7] = 2048;
-    let zero = handed_in(32768, 1275068, &[32768]);
-    let rows = [
-        ("a_7 4096", full, [65536, 73728, 52093, -8192], 6, 7, 2500),
-        ("a_7 2048", half, [65536, 76669, 55034, -11133], 6, 7, 1519),
-        ("d_0 zero", zero, [21635, 21635, 0, 0], 0, 0, 10000),
-    ];
-    for (name, meter, levels, lower, upper, T) in rows {
-        let report = report_with(&meter, levels, lower, upper, T);
-        tally.equal(name, meter.report(), Ok(report));
-    }
-
-    let found = handed_in(32768, 1 << 20, &[32768]).report();
-    tally.equal("d_0 negative", found, Err(15));
-}
-
-/// The rows of the bounds on n and on a chunk (the customer's scope, "Worked figures").
-fn bounds(tally: &mut Tally) {
-    let full = handed_in(1 << 48, 0, &[]);
-    tally.equal("n 2^48, one sample", full.chunk(&[0]).1, 11);
-    tally.equal("n 2^48, empty chunk", full.chunk(&[]).1, 0);
-    let fresh = Meter::open(Setting::usual(2)).0;
-    tally.equal("chunk of 4096", fresh.chunk(&[0; 4096]).1, 0);
-    tally.equal("chunk of 4097", fresh.chunk(&[0; 4097]).1, 3);
-}
-
 /// The example of the report program (the customer's scope, "Worked figures"), inputs at the edges,
 /// and a level with its percentage (the customer's request L1).
 fn program(tally: &mut Tally) {
@@ -203,27 +132,6 @@ fn program(tally: &mut Tally) {
     for (name, input, refused, measurement) in rows {
         tally.equal(name, report(input), [refused, measurement].concat());
     }
-}
-
-/// A pair of samples that brings Q to a threshold exactly.
-fn exact_threshold(tally: &mut Tally) {
-    let (meter, r) = Meter::open(Setting::usual(1)).0.chunk(&[9126, 11705]);
-    tally.equal(
-        "9126, 11705 at code 1",
-        (r, meter.P, meter.Q),
-        (0, 16052775414, 1 << 30),
-    );
-    let counts = [2, 2, 2, 2, 2, 1, 1, 0, 0, 0, 0, 0, 0, 0, 0];
-    tally.equal("9126, 11705 at code 1, counts", meter.a, placed(&counts));
-}
-
-/// An interpolation off the powers of two.
-fn further_report(tally: &mut Tally) {
-    let a = [4096, 4096, 4096, 4096, 4096, 4096, 4096, 3000];
-    let found = handed_in(16384, 1 << 30, &a)
-        .report()
-        .map(|report| report.A);
-    tally.equal("a_7 3000", found, Ok(74580));
 }
 
 /// The figures of the percentage (the customer's request L1), more of them at its ends, and F far

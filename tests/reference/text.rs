@@ -1,12 +1,12 @@
 //! Records as text, and values of lines by their names.
 //!
-//! A line of a text is a record: its kind and its fields by name, as in `open code=1 margin=0`. What
-//! is not named is the usual value, and 2 for a code. After `->` stands the answer: a number; for a
-//! show the values of the meter, as for a load; for a report those that are not the meter's own; for
-//! a write a number and the buffer's bytes. A load has none.
+//! A line of a text is a record: its kind and its fields by name, as in `open code=1 margin=0`.
+//! What is not named is the usual value, and 2 for a code. After `->` stands the answer: a number;
+//! for a show the values of the meter, as for a load; for a report those that are not the meter's
+//! own, where not named 0; for a write a number and the buffer's bytes; for a load nothing.
 //!
 //! The numbers of a field are parted by commas. A number is a sum of terms such as `2^24+1`; `N*K`
-//! is N, K times over; `N..M` are the numbers from N to M by doubling.
+//! is N, K times over; `N...M` are the numbers from N to M, and `N..M` those by doubling.
 
 use crate::block;
 use crate::fields::Value;
@@ -50,10 +50,13 @@ fn sum(text: &str) -> Option<i128> {
     }
 }
 
-/// One number, one of them many times over, or some by doubling.
+/// One number, one of them many times over, or a row of them.
 fn item(text: &str) -> Option<Vec<i128>> {
     if let Some((number, times)) = text.split_once('*') {
         return Some(vec![sum(number)?; times.parse().ok()?]);
+    }
+    if let Some((first, last)) = text.split_once("...") {
+        return Some((sum(first)?..=sum(last)?).collect());
     }
     let Some((first, last)) = text.split_once("..") else {
         return Some(vec![sum(text)?]);

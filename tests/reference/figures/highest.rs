@@ -52,7 +52,7 @@ fn two(tally: &mut Tally) {
 
 /// A meter with three crossings, each between two counts that are one doubling apart: A_j is 24576
 /// at 0, 40960 at 2, 57344 at 4, and 4096 more right above each, where d_j goes from 2941 to -1155.
-pub fn with_three() -> Meter {
+fn with_three() -> Meter {
     let mut a = [1 << 11; 15];
     a[..5].copy_from_slice(&[1 << 20, 1 << 19, 1 << 16, 1 << 15, 1 << 12]);
     handed_in(1 << 20, 1 << 26, &a)

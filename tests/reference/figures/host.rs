@@ -3,19 +3,13 @@
 use crate::block;
 use crate::generate::generate;
 use crate::host::host as answers;
+use crate::records::Record;
 use crate::tally::Tally;
+use crate::text;
 
-/// A check of three bytes with code 1.
-const CHECK: [u8; 10] = [8, 1, 0, 0, 0, 3, 0, 7, 8, 9];
-
-/// A write of the scope's example into a buffer of three bytes.
-const WRITE: [u8; 19] = [
-    9, 1, 0, 0, 0, 0, 0, 0, 0, 0, 0, 0, 0, 1, 0, 0xff, 0x7f, 3, 0,
-];
-
-/// Where the code of either begins, and the length of that write's buffer.
-const CODE: usize = 1;
-const LENGTH: usize = 17;
+/// A check of three bytes, and a write of the scope's example into a buffer of three bytes.
+const CHECK: &str = "check code=1 bytes=7...9";
+const WRITE: &str = "write code=1 samples=32767 length=3";
 
 /// Every figure.
 pub fn host(tally: &mut Tally) {
@@ -27,27 +21,29 @@ pub fn host(tally: &mut Tally) {
     generated(tally);
 }
 
-/// A record with some bytes changed.
-fn changed(record: &[u8], at: usize, bytes: &[u8]) -> Vec<u8> {
-    let mut record = record.to_vec();
-    record[at..at + bytes.len()].copy_from_slice(bytes);
-    record
+/// The bytes of a record for the host.
+fn call(record: &str) -> Vec<u8> {
+    let mut bytes = Vec::new();
+    for record in text::records(record).expect("a record") {
+        record.write_for_host(&mut bytes);
+    }
+    bytes
 }
 
 /// Checks the lines of records.
-fn row(tally: &mut Tally, records: &[u8], lines: &str) {
-    let name = format!("host, {:?}", &records[..records.len().min(19)]);
-    tally.equal(&name, answers(records), Some(lines.to_string()));
+fn row(tally: &mut Tally, records: &str, lines: &str) {
+    let found = answers(&call(records));
+    tally.equal(&format!("host, {records}"), found.as_deref(), Some(lines));
 }
 
 /// No record, both, and both with each byte of the code changed in turn.
 fn codes(tally: &mut Tally) {
-    tally.equal("host, nothing", answers(&[]), Some(String::new()));
-    let both = [&CHECK[..], &WRITE].concat();
+    row(tally, "", "");
+    let both = format!("{CHECK}\n{WRITE}");
     row(tally, &both, "check 4\nwrite 4 a5a5a5\n");
-    for code in [[4, 0, 0, 0], [1, 1, 0, 0], [1, 0, 1, 0], [1, 0, 0, 1]] {
-        row(tally, &changed(&CHECK, CODE, &code), "check 1\n");
-        row(tally, &changed(&WRITE, CODE, &code), "write 1 a5a5a5\n");
+    for code in ["4", "2^8+1", "2^16+1", "2^24+1"] {
+        let other = both.replace("code=1", &format!("code={code}"));
+        row(tally, &other, "check 1\nwrite 1 a5a5a5\n");
     }
 }
 
@@ -55,25 +51,28 @@ fn codes(tally: &mut Tally) {
 fn buffers(tally: &mut Tally) {
     let zeros = "00".repeat(494);
     let line = format!("write 0 010101000000000000000000ff7f{zeros}01817fff\n");
-    row(tally, &changed(&WRITE, LENGTH, &[0, 2]), &line);
-    row(tally, &changed(&WRITE, LENGTH, &[0, 0]), "write 4\n");
+    row(tally, &WRITE.replace("length=3", "length=512"), &line);
+    row(tally, &WRITE.replace("length=3", "length=0"), "write 4\n");
 }
 
 /// Checks of that block with its code and with another.
 fn checks(tally: &mut Tally) {
     let block = block::make(1, 0, &[32767]);
-    let check = [&[8, 1, 0, 0, 0, 0, 2][..], &block].concat();
-    row(tally, &check, "check 0\n");
-    row(tally, &changed(&check, CODE, &[2]), "check 7\n");
+    for (code, line) in [(1, "check 0\n"), (2, "check 7\n")] {
+        let mut bytes = Vec::new();
+        Record::Check(code, block.clone()).write_for_host(&mut bytes);
+        let found = answers(&bytes);
+        tally.equal("host, a sound block", found.as_deref(), Some(line));
+    }
 }
 
 /// Either record cut anywhere, alone and after a whole one.
 fn cut(tally: &mut Tally) {
-    for record in [&CHECK[..], &WRITE] {
+    for record in [CHECK, WRITE].map(call) {
         for length in 1..record.len() {
             let cut = &record[..length];
             tally.equal("host, cut", answers(cut), None);
-            let after = [&CHECK[..], cut].concat();
+            let after = [&call(CHECK)[..], cut].concat();
             tally.equal("host, cut later", answers(&after), None);
         }
     }
@@ -82,7 +81,8 @@ fn cut(tally: &mut Tally) {
 /// Records of every other kind.
 fn other_kinds(tally: &mut Tally) {
     for kind in (0..=255).filter(|kind| ![8, 9].contains(kind)) {
-        let other = changed(&WRITE, 0, &[kind]);
+        let mut other = call(WRITE);
+        other[0] = kind;
         tally.equal("host, another kind", answers(&other), None);
     }
 }

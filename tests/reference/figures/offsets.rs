@@ -1,14 +1,12 @@
 //! The figures of a standing offset (the customer's request L2).
 
-use super::report_with;
-use crate::block;
 use crate::generate::signals::around;
 use crate::meter::{Meter, MOST_SAMPLES};
 use crate::rate::RATES;
 use crate::setting::Setting;
 use crate::speech::voice;
 use crate::tally::Tally;
-use crate::thresholds::{placed, Thresholds};
+use crate::thresholds::placed;
 
 /// Offsets at the ends of the range, next to none, and in between.
 const OFFSETS: [i16; 7] = [-32768, -20000, -1, 0, 1, 300, 32767];
@@ -24,9 +22,7 @@ fn setting(code: u8, offset: i16) -> Setting {
 /// Every figure.
 pub fn offsets(tally: &mut Tally) {
     openings(tally);
-    samples(tally);
     bounds(tally);
-    loudest(tally);
     moved(tally);
 }
 
@@ -34,12 +30,7 @@ pub fn offsets(tally: &mut Tally) {
 fn openings(tally: &mut Tally) {
     for offset in OFFSETS {
         let fresh = Meter {
-            setting: Setting {
-                code: 2,
-                offset,
-                margin: 21635,
-                thresholds: Thresholds::BUILT_IN,
-            },
+            setting: setting(2, offset),
             h: placed(&[1600; 15]),
             ..Meter::zero()
         };
@@ -50,31 +41,6 @@ fn openings(tally: &mut Tally) {
         }
     }
     tally.equal("offset of all zeros", Meter::zero().setting.offset, 0);
-}
-
-/// The largest size there is, and none, by a chunk and by a block.
-fn samples(tally: &mut Tally) {
-    let mut furthest = Meter {
-        n: 1,
-        s: -32768,
-        sq: 4294836225,
-        P: 4571721600,
-        Q: 19009309,
-        ..Meter::open(setting(2, 32767)).0
-    };
-    (furthest.a[0], furthest.h[0]) = (1, 0);
-    let silent = Meter {
-        n: 1,
-        s: -1,
-        ..Meter::open(setting(2, -1)).0
-    };
-    for (x, expected) in [(-32768, furthest), (-1, silent)] {
-        let (fresh, _) = Meter::open(expected.setting);
-        let name = format!("{x} at code 2, offset {}", expected.setting.offset);
-        let by_block = fresh.block(&block::make(2, 0, &[x]));
-        tally.equal(&name, fresh.chunk(&[x]), (expected.clone(), 0));
-        tally.equal(&name, by_block, (expected, 0));
-    }
 }
 
 /// The bounds of refusal 2 on P, Q and sq, which are the same whatever the offset.
@@ -106,18 +72,6 @@ fn bounds(tally: &mut Tally) {
             tally.equal(&name, refused, [false, true, true, true]);
         }
     }
-}
-
-/// The largest sq there is, 2^80, which has its crossing at the highest threshold.
-fn loudest(tally: &mut Tally) {
-    let meter = Meter {
-        n: MOST_SAMPLES,
-        sq: 1 << 80,
-        a: placed(&[MOST_SAMPLES; 15]),
-        ..Meter::open(setting(2, 32767)).0
-    };
-    let report = report_with(&meter, [131072, 131072, 109437, 0], 13, 14, 10000);
-    tally.equal("sq 2^80", meter.report(), Ok(report));
 }
 
 /// A voice around an offset is measured as it is around 0: only the offset and s are others.

@@ -6,6 +6,7 @@ use crate::rate::RATES;
 use crate::replay::replay;
 use crate::speech;
 use crate::tally::Tally;
+use crate::text;
 
 /// Every figure.
 pub fn recorded(tally: &mut Tally) {
@@ -39,11 +40,9 @@ fn short(tally: &mut Tally) {
     let block = block::make(2, 0, &[32767]);
     let recording = [&block[..], &block[..3]].concat();
     let lines = replay(&measurement::recorded(&RATES[1], &recording));
-    let list = (24..39).map(|k| format!("{} ", 1u64 << k));
-    let list = list.collect::<String>() + &"0 ".repeat(9);
-    let expected = format!(
-        "open 0\nblock 0\nblock 4\nreport 14\n\
-         meter 2 0 21635 15 {list}1 32767 0 1073676289 2285825920 9504509 "
+    let expected = text::answers(
+        "open -> 0\nblock samples=32767 -> 0\nblock bytes=1,2,1 -> 4\nreport -> 14\n\
+         show -> n=1 s=32767 sq=1073676289 P=2285825920 Q=9504509 h=1600*15\n",
     );
-    tally.holds("a short block recorded", lines.starts_with(&expected));
+    tally.equal("a short block recorded", Ok(lines), expected);
 }

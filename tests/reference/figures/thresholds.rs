@@ -4,29 +4,25 @@
 use super::{handed_in, report_with};
 use crate::exact::Exact;
 use crate::listed::listed;
-use crate::meter::{Meter, Report};
+use crate::meter::Meter;
 use crate::rate::RATES;
 use crate::records::{script, Record};
-use crate::setting::{marked, Opening, Setting};
+use crate::setting::{Opening, Setting};
 use crate::speech::finer::FINER;
 use crate::tally::Tally;
 use crate::thresholds::{changed, doubled, placed, Thresholds};
 
-/// What a report at a margin has: the margin, L, A, C and F, the lower and the upper threshold, T.
-type Row = (i64, [i64; 4], usize, usize, u64);
+/// What a report has: L, A, C and F, the lower and the upper threshold, T.
+type Row = ([i64; 4], usize, usize, u64);
 
 /// Every figure.
 pub fn thresholds(tally: &mut Tally) {
     built_in(tally);
-    openings(tally);
-    fresh(tally);
     levels(tally);
     meters(tally);
     to_the_end(tally);
     past_end(tally);
     samples(tally);
-    below_zero(tally);
-    shortest(tally);
     quiet_speech(tally);
     bounds_below_zero(tally);
     lines(tally);
@@ -54,66 +50,6 @@ fn built_in(tally: &mut Tally) {
         tally.equal("built in, C_j", list.C_(j), Some(8192 * j as i64));
     }
     tally.equal("built in, past its end", list.C_(15), None);
-}
-
-/// Lists with the answer at opening: every bound and just past it, and several numbers that apply.
-fn openings(tally: &mut Tally) {
-    let (least, most) = (doubled(14, 1 << 24), doubled(18, 1 << 22));
-    let wraps = [1 << 62].into_iter().chain((0..13).map(|j| (1 << 63) + j));
-    let rows = [
-        (least.clone(), 0),
-        (most.clone(), 0),
-        (longest(), 0),
-        ([&[(1 << 24) - 1][..], &least].concat(), 0),
-        ([&least[..], &[(1 << 37) + 1]].concat(), 0),
-        (changed(most.clone(), 17, (1 << 39) - 1), 0),
-        (vec![], 19),
-        (vec![1 << 24], 19),
-        (doubled(13, 1 << 24), 19),
-        (doubled(13, 1), 19),
-        ([&longest()[..], &[1 << 39]].concat(), 19),
-        (doubled(25, 1 << 14), 19),
-        (vec![0; 65534], 19),
-        (changed(most.clone(), 9, 1 << 30), 20),
-        (changed(most.clone(), 9, (1 << 30) - 1), 20),
-        (changed(most.clone(), 1, (1 << 23) + 1), 20),
-        (changed(least.clone(), 13, (1 << 37) + 1), 20),
-        (changed(most.clone(), 0, 1 << 21), 20),
-        (vec![0; 14], 20),
-        (vec![u64::MAX; 24], 20),
-        ([&[(1 << 22) - 1][..], &most].concat(), 21),
-        (changed(least.clone(), 0, (1 << 24) + 1), 21),
-        (changed(least.clone(), 13, (1 << 37) - 1), 21),
-        ([&most[..], &[(1 << 39) + 1]].concat(), 21),
-        (doubled(14, 1), 21),
-        (doubled(24, 1 << 40), 21),
-        (wraps.collect(), 21),
-    ];
-    for (list, r) in rows {
-        let name = format!("opened with {:?}", &list[..list.len().min(30)]);
-        tally.equal(&name, Meter::open(setting(&list)).1, r);
-    }
-}
-
-/// A fresh meter keeps its list, and has hangovers up to its end; a refused opening leaves nothing.
-fn fresh(tally: &mut Tally) {
-    for list in [doubled(14, 1 << 24), doubled(18, 1 << 22), longest()] {
-        let expected = Meter {
-            setting: setting(&list),
-            h: placed(&vec![1600; list.len()]),
-            ..Meter::zero()
-        };
-        let found = Meter::open(setting(&list));
-        tally.equal("fresh with a list", found, (expected, 0));
-    }
-    let refused = Meter::open(setting(&doubled(13, 1 << 24)));
-    tally.equal("refused with 19", refused, (Meter::zero(), 19));
-    let zero = Meter::zero().setting.thresholds;
-    tally.equal(
-        "list of all zeros",
-        (zero.length, zero.places),
-        (0, [0; 24]),
-    );
 }
 
 /// C_j of single thresholds: some have the same; twice the level of 5 is less than that of 25.
@@ -172,8 +108,8 @@ fn refused(tally: &mut Tally, meter: &Meter) {
     tally.equal(&name, meter.block(&block), (meter.clone(), 2));
 }
 
-/// Refusal 2 reads counts and hangovers up to the last of 24, and all of a length whose lowest byte or
-/// word is 24.
+/// Refusal 2 reads counts and hangovers up to the last of 24, and all of a length whose lowest byte
+/// or word is 24.
 fn to_the_end(tally: &mut Tally) {
     let (fresh, _) = Meter::open(setting(&longest()));
     let full = Meter {
@@ -265,76 +201,12 @@ fn after_samples(tally: &mut Tally, list: &[u64], a: &[u64], h: &[u64]) {
     tally.equal(&name, found, (expected, 0));
 }
 
-/// Checks the reports of a meter with a list at margins.
-fn row(tally: &mut Tally, name: &str, meter: &Meter, list: &[u64], rows: &[Row]) {
-    for &(margin, levels, lower, upper, T) in rows {
-        let meter = meter.at_thresholds(Thresholds::of(list)).at_margin(margin);
-        let report = Report {
-            mark: marked(margin),
-            ..report_with(&meter, levels, lower, upper, T)
-        };
-        let name = format!("{name} at margin {margin}");
-        tally.equal(&name, meter.report(), Ok(report));
-    }
-}
-
-/// Levels at 0, just below and further below, down to the lowest there is, at a threshold and
-/// between two; and one step less than the lowest.
-fn below_zero(tally: &mut Tally) {
-    let list = doubled(18, 1 << 22);
-    let at_first = [
-        (8192, 8191, (16383, [-1, -1, -16384, 0])),
-        (8192, 8190, (16382, [-2, -2, -16384, 0])),
-        (8192, 8189, (16381, [-3, -3, -16384, 0])),
-        (4096, 4096, (16384, [0, 0, -16384, 0])),
-        (1 << 20, 1 << 18, (8192, [-8192, -8192, -16384, 0])),
-        (1 << 20, 65548, (1, [-16383, -16383, -16384, 0])),
-    ];
-    for (n, sq, (margin, levels)) in at_first {
-        let meter = handed_in(n, sq, &[n]);
-        let level = (margin, levels, 0, 0, 10000);
-        row(tally, &format!("sq {sq}"), &meter, &list, &[level]);
-    }
-    let lower = handed_in(1 << 20, 65547, &[1 << 20]).at_thresholds(Thresholds::of(&list));
-    tally.equal("A_0 of -16384", lower.at_margin(1).report(), Err(15));
-    let between = [
-        (16101, [-141, 1, -16100, -142], 0, 1, 9763),
-        (16102, [-141, 0, -16102, -141], 0, 1, 9765),
-        (16103, [-141, -1, -16104, -140], 0, 1, 9766),
-        (16104, [-141, -2, -16106, -139], 0, 1, 9768),
-        (16105, [-141, -3, -16108, -138], 0, 1, 9770),
-    ];
-    let meter = handed_in(4096, 4000, &[4096, 2048, 100]);
-    row(tally, "between two", &meter, &list, &between);
-    let quiet = handed_in(4096, 2000, &[4096, 2048]);
-    let further = [
-        (10000, [-4237, -2090, -12090, -2147], 0, 1, 6954),
-        (12000, [-4237, -4090, -16090, -147], 0, 1, 9755),
-    ];
-    row(tally, "further below", &quiet, &list, &further);
-}
-
-/// The shortest list and the longest: their lowest and their highest crossings.
-fn shortest(tally: &mut Tally) {
-    let list = doubled(14, 1 << 24);
-    let zero = handed_in(32768, 1275068, &[32768]);
-    let lowest = (21635, [21635, 21635, 0, 0], 0, 0, 10000);
-    row(tally, "14, the lowest", &zero, &list, &[lowest]);
-    let loud = handed_in(4096, 1 << 43, &[4096; 14]);
-    let highest = (21635, [126976, 126976, 105341, 0], 12, 13, 10000);
-    row(tally, "14, the highest", &loud, &list, &[highest]);
-    let louder = handed_in(4096, 1 << 44, &[4096; 14]).at_thresholds(Thresholds::of(&list));
-    tally.equal("14, too loud", louder.report(), Err(16));
-    let list = doubled(18, 1 << 22);
-    let loud = handed_in(1 << 20, (1 << 52) - 1, &[1 << 20; 18]);
-    let highest = (8192, [131071, 131071, 122879, 0], 16, 17, 10000);
-    row(tally, "18, the highest", &loud, &list, &[highest]);
-    let a = [&[1000; 9][..], &[500; 3]].concat();
-    let rows = [
-        (8192, [2396, 6492, -1700, -4096], 7, 8, 5000),
-        (22314, [2396, 6492, -15822, -4096], 6, 7, 5000),
-    ];
-    row(tally, "24", &handed_in(2000, 3000, &a), &longest(), &rows);
+/// Checks the report of a meter with a list.
+fn row(tally: &mut Tally, name: &str, meter: &Meter, list: &[u64], row: Row) {
+    let meter = meter.at_thresholds(Thresholds::of(list));
+    let (levels, lower, upper, T) = row;
+    let report = report_with(&meter, levels, lower, upper, T);
+    tally.equal(name, meter.report(), Ok(report));
 }
 
 /// Quiet speech at the built-in list and at a finer one, with the same counts where they have the
@@ -345,13 +217,13 @@ fn quiet_speech(tally: &mut Tally) {
         51000, 43000, 36000, 20000, 9000, 2000,
     ];
     let meter = handed_in(240000, 352000000, &a);
-    let level = (21635, [43083, 48255, 26620, -5172], 6, 7, 4168);
-    row(tally, "quiet, finer", &meter, &FINER, &[level]);
+    let level = ([43083, 48255, 26620, -5172], 6, 7, 4168);
+    row(tally, "quiet, finer", &meter, &FINER, level);
     let shared = [0, 1, 2, 6, 10, 14, 15, 16, 17].map(|j| a[j]);
     let meter = handed_in(240000, 352000000, &shared);
-    let level = (21635, [43083, 48526, 26891, -5443], 3, 4, 3981);
+    let level = ([43083, 48526, 26891, -5443], 3, 4, 3981);
     let list = doubled(15, 1 << 24);
-    row(tally, "quiet, built in", &meter, &list, &[level]);
+    row(tally, "quiet, built in", &meter, &list, level);
 }
 
 /// The two bounds on A by E where powers of two are on the other side, at the first A for which
