@@ -6,7 +6,8 @@
 //! own, where not named 0; for a write a number and the buffer's bytes; for a load nothing.
 //!
 //! The numbers of a field are parted by commas. A number is a sum of terms such as `2^24+1`; `N*K`
-//! is N, K times over; `N...M` are the numbers from N to M, and `N..M` those by doubling.
+//! is N, K times over; `N...M` are the numbers from N to M, and `N..M` those by doubling. A line that
+//! ends with a backslash goes on with the next, after four spaces.
 
 use crate::block;
 use crate::fields::Value;
@@ -172,8 +173,8 @@ fn parts(line: &str) -> Option<(&str, Record, &str)> {
 }
 
 /// Something of each line that is a record; the line where there is nothing.
-fn each<T>(text: &str, part: impl FnMut(&str) -> Option<T>) -> Result<Vec<T>, String> {
-    let mut part = part;
+fn each<T>(text: &str, mut part: impl FnMut(&str) -> Option<T>) -> Result<Vec<T>, String> {
+    let text = text.replace("\\\n    ", "");
     let lines = text
         .lines()
         .filter(|line| !line.is_empty() && !line.starts_with('#'));

@@ -1,19 +1,15 @@
 //! The figures of thresholds of the customer's choosing (the customer's request L8), and what
 //! `listed` tells of scripts.
 
-use super::{handed_in, report_with};
+use super::handed_in;
 use crate::exact::Exact;
 use crate::listed::listed;
 use crate::meter::Meter;
 use crate::rate::RATES;
 use crate::records::{script, Record};
 use crate::setting::{Opening, Setting};
-use crate::speech::finer::FINER;
 use crate::tally::Tally;
 use crate::thresholds::{changed, doubled, placed, Thresholds};
-
-/// What a report has: L, A, C and F, the lower and the upper threshold, T.
-type Row = ([i64; 4], usize, usize, u64);
 
 /// Every figure.
 pub fn thresholds(tally: &mut Tally) {
@@ -22,8 +18,6 @@ pub fn thresholds(tally: &mut Tally) {
     meters(tally);
     to_the_end(tally);
     past_end(tally);
-    samples(tally);
-    quiet_speech(tally);
     bounds_below_zero(tally);
     lines(tally);
 }
@@ -158,72 +152,6 @@ fn past_end(tally: &mut Tally) {
         ];
         tally.equal(&format!("past the end, {place}"), found, [true; 3]);
     }
-}
-
-/// Samples of 40, quieter ones and a pause at code 1: the meter after them at three lists, with the
-/// counts above 0 and the hangovers that have not run out.
-fn samples(tally: &mut Tally) {
-    let a = [246, 244, 232, 206, 168];
-    let finer = [246, 244, 232, 226, 219, 213, 206, 198, 189, 180, 168, 151];
-    let longer = [&[249; 7][..], &[247], &a].concat();
-    let hangovers = [&[76; 7][..], &[93, 110, 128]].concat();
-    let rows = [
-        (doubled(14, 1 << 24), &a[..], &[110, 128][..]),
-        (FINER.to_vec(), &finer, &[110, 128]),
-        (longest(), &longer, &hangovers),
-    ];
-    for (list, a, h) in rows {
-        after_samples(tally, &list, a, h);
-    }
-}
-
-/// Checks the meter after those samples.
-fn after_samples(tally: &mut Tally, list: &[u64], a: &[u64], h: &[u64]) {
-    let samples = [&[40; 30][..], &[-3; 20], &[0; 200]].concat();
-    let mut hangovers = h.to_vec();
-    hangovers.resize(list.len(), 139);
-    let setting = Setting {
-        code: 1,
-        ..setting(list)
-    };
-    let expected = Meter {
-        setting,
-        n: 250,
-        s: 1140,
-        sq: 48180,
-        P: 15273,
-        Q: 164018,
-        a: placed(a),
-        h: placed(&hangovers),
-    };
-    let found = Meter::open(setting).0.chunk(&samples);
-    let name = format!("samples at {} thresholds", list.len());
-    tally.equal(&name, found, (expected, 0));
-}
-
-/// Checks the report of a meter with a list.
-fn row(tally: &mut Tally, name: &str, meter: &Meter, list: &[u64], row: Row) {
-    let meter = meter.at_thresholds(Thresholds::of(list));
-    let (levels, lower, upper, T) = row;
-    let report = report_with(&meter, levels, lower, upper, T);
-    tally.equal(name, meter.report(), Ok(report));
-}
-
-/// Quiet speech at the built-in list and at a finer one, with the same counts where they have the
-/// same thresholds: 271 steps, 0.2 dB, apart.
-fn quiet_speech(tally: &mut Tally) {
-    let a = [
-        180000, 150000, 130000, 126000, 121000, 115000, 108000, 100000, 91000, 81000, 70000, 60000,
-        51000, 43000, 36000, 20000, 9000, 2000,
-    ];
-    let meter = handed_in(240000, 352000000, &a);
-    let level = ([43083, 48255, 26620, -5172], 6, 7, 4168);
-    row(tally, "quiet, finer", &meter, &FINER, level);
-    let shared = [0, 1, 2, 6, 10, 14, 15, 16, 17].map(|j| a[j]);
-    let meter = handed_in(240000, 352000000, &shared);
-    let level = ([43083, 48526, 26891, -5443], 3, 4, 3981);
-    let list = doubled(15, 1 << 24);
-    row(tally, "quiet, built in", &meter, &list, level);
 }
 
 /// The two bounds on A by E where powers of two are on the other side, at the first A for which
