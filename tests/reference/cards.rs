@@ -5,6 +5,7 @@ mod card;
 
 use crate::records::read;
 use crate::tally::Tally;
+use crate::thresholds::{LENGTHS, PLACES};
 use card::{played, recorded, Card};
 
 /// The names of the two cards.
@@ -171,8 +172,11 @@ impl Pair {
         let found = [
             ("margins differ", setting.margin != second.setting.margin),
             ("lists differ", first.list() != second.list()),
-            ("shortest list", first.list().len() == 14),
-            ("longest list", first.list().len() == 24),
+            (
+                "shortest list",
+                first.list().len() as u64 == *LENGTHS.start(),
+            ),
+            ("longest list", first.list().len() == PLACES),
             ("refused first", first.refused),
             ("refused second", second.refused),
             ("cut differently", first.cut != second.cut),

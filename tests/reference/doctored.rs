@@ -89,6 +89,13 @@ impl List {
     }
 }
 
+/// A value with something changed.
+pub fn altered<T: Clone>(value: &T, change: &dyn Fn(&mut T)) -> T {
+    let mut value = value.clone();
+    change(&mut value);
+    value
+}
+
 /// The clauses of the checks that failed, without what they are about.
 fn broken(checks: &Tally) -> Vec<&str> {
     let names = checks.failed().iter();
@@ -193,11 +200,7 @@ fn level_above(tally: &mut Tally) {
 fn reports(tally: &mut Tally) {
     let list = List::of_chunk(USUAL, &hum_and_shout());
     let right = list.meter.report_at(4).expect("a crossing at 4");
-    let with = |change: &dyn Fn(&mut Report)| {
-        let mut report = right.clone();
-        change(&mut report);
-        report
-    };
+    let with = |change: &dyn Fn(&mut Report)| altered(&right, change);
     let rows = [
         ("a crossing at the upper threshold", with(&|r| r.upper = 5)),
         ("the lower threshold", with(&|r| r.lower = 0)),

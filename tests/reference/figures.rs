@@ -14,7 +14,7 @@ mod writes;
 
 use crate::block;
 use crate::doctored::doctored;
-use crate::meter::{Meter, Report};
+use crate::meter::Meter;
 use crate::percent;
 use crate::rate::RATES;
 use crate::report::report;
@@ -73,29 +73,14 @@ fn handed_in(n: u64, sq: u128, a: &[u64]) -> Meter {
     meter
 }
 
-/// The report of a meter with these L, A, C and F, lower and upper threshold and T, and no mark.
-fn report_with(
-    meter: &Meter,
-    [L, A, C, F]: [i64; 4],
-    lower: usize,
-    upper: usize,
-    T: u64,
-) -> Report {
-    Report {
-        n: meter.n,
-        s: meter.s,
-        sq: meter.sq,
-        a: meter.a,
-        L,
-        A,
-        C,
-        F,
-        lower,
-        upper,
-        T,
-        margin: meter.setting.margin,
-        mark: false,
-    }
+/// Every call on a meter is refused with 2 and hands it back.
+fn refused(tally: &mut Tally, meter: &Meter) {
+    let name = format!("refused: {:?}", meter.setting);
+    tally.equal(&name, meter.report(), Err(2));
+    tally.equal(&name, meter.chunk(&[1]), (meter.clone(), 2));
+    tally.equal(&name, meter.chunk(&[]), (meter.clone(), 2));
+    let block = block::make(2, meter.n, &[1]);
+    tally.equal(&name, meter.block(&block), (meter.clone(), 2));
 }
 
 /// The example of the report program (the customer's scope, "Worked figures"), inputs at the edges,
@@ -115,18 +100,8 @@ fn program(tally: &mut Tally) {
         ("example", &block[..], "", example),
         ("empty input", &[], "", nothing),
         ("short block", &block[..511], "block 1 refused 4\n", nothing),
-        (
-            "the same block again",
-            &twice,
-            "block 2 refused 10\n",
-            example,
-        ),
-        (
-            "one byte more",
-            &twice[..513],
-            "block 2 refused 4\n",
-            example,
-        ),
+        ("twice", &twice, "block 2 refused 10\n", example),
+        ("one more", &twice[..513], "block 2 refused 4\n", example),
         ("a level", &steady, "", level),
     ];
     for (name, input, refused, measurement) in rows {

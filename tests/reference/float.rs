@@ -6,6 +6,7 @@
 
 use crate::measurement::Levels;
 use crate::rate::Rate;
+use crate::thresholds::BUILT_IN_LENGTH;
 
 /// The time constant of smoothing, in seconds (P.56, Table 2).
 const T: f64 = 0.03;
@@ -104,9 +105,10 @@ fn crossings_at(rate: &Rate, samples: &[i16], thresholds: &[f64], margin: f64) -
     active.into_iter().map(levels).collect()
 }
 
-/// The same at the powers of two.
+/// The same at the powers of two, as many as the built-in list has.
 pub fn crossings(rate: &Rate, samples: &[i16], margin: f64) -> Vec<Levels> {
-    let thresholds: Vec<f64> = (0..15).map(|j| f64::from(1 << j)).collect();
+    let powers = (0..BUILT_IN_LENGTH).map(|j| f64::from(1 << j));
+    let thresholds: Vec<f64> = powers.collect();
     crossings_at(rate, samples, &thresholds, margin)
 }
 

@@ -186,27 +186,23 @@ fn speech(arguments: &[&str]) -> io::Result<bool> {
             let printed = std::fs::read_to_string(printed)?;
             Ok(speech::check(rate_of(code)?, &samples, &printed).finish())
         }
-        ["heard", code, seed, printed] => {
-            let printed = std::fs::read_to_string(printed)?;
-            Ok(hum::heard(rate_of(code)?, seed_of(seed)?, &printed).finish())
-        }
         ["vehicle", "script", code, seed] => {
             output(&vehicle::script(rate_of(code)?, seed_of(seed)?))
         }
-        ["vehicle", "check", code, seed, printed] => {
-            let printed = std::fs::read_to_string(printed)?;
-            Ok(vehicle::check(rate_of(code)?, seed_of(seed)?, &printed).finish())
-        }
         ["finer", "script", code, seed] => output(&finer::script(rate_of(code)?, seed_of(seed)?)),
-        ["finer", "check", code, seed, printed] => {
+        [line @ ("hum" | "vehicle" | "finer"), "check", code, seed, printed] => {
+            let check = match *line {
+                "hum" => hum::heard,
+                "vehicle" => vehicle::check,
+                _ => finer::check,
+            };
             let printed = std::fs::read_to_string(printed)?;
-            Ok(finer::check(rate_of(code)?, seed_of(seed)?, &printed).finish())
+            Ok(check(rate_of(code)?, seed_of(seed)?, &printed).finish())
         }
         _ => error(
             "speech voice CODE SEED | speech hum CODE SEED | speech script CODE | \
-             speech check CODE SAMPLES OUTPUT | speech heard CODE SEED OUTPUT | \
-             speech vehicle script CODE SEED | speech vehicle check CODE SEED OUTPUT | \
-             speech finer script CODE SEED | speech finer check CODE SEED OUTPUT",
+             speech check CODE SAMPLES OUTPUT | speech vehicle|finer script CODE SEED | \
+             speech hum|vehicle|finer check CODE SEED OUTPUT",
         ),
     }
 }

@@ -35,13 +35,9 @@ impl Measurement {
 
 /// Whether a report's n, s, sq, counts and margin are those of a meter; a refused one has none.
 fn totals_of(answer: &Result<Report, u32>, meter: &Meter) -> bool {
-    match answer {
-        Ok(report) => {
-            let totals = (report.n, report.s, report.sq, report.a);
-            totals == (meter.n, meter.s, meter.sq, meter.a) && report.margin == meter.setting.margin
-        }
-        Err(_) => true,
-    }
+    let totals = |r: &Report| (r.n, r.s, r.sq, r.a, r.margin);
+    let own = totals(&meter.totals());
+    answer.as_ref().map_or(true, |report| totals(report) == own)
 }
 
 /// The levels of a report; its T is in hundredths of a percent (the customer's request L1).

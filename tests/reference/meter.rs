@@ -267,22 +267,30 @@ impl Meter {
         }
         let L = self.L()?;
         let (A, lower, upper) = self.active(j)?;
-        let margin = self.setting.margin;
         Some(Report {
-            n: self.n,
-            s: self.s,
-            sq: self.sq,
-            a: self.a,
             L,
             A,
-            C: A - margin,
+            C: A - self.setting.margin,
             F: L - A,
             lower,
             upper,
             T: percent::T(L - A),
-            margin,
-            mark: marked(margin),
+            mark: marked(self.setting.margin),
+            ..self.totals()
         })
+    }
+
+    /// What a report has from the meter as it is, and 0 for all else (the customer's scope, "The
+    /// report"; the customer's request L5).
+    pub fn totals(&self) -> Report {
+        Report {
+            n: self.n,
+            s: self.s,
+            sq: self.sq,
+            a: self.a,
+            margin: self.setting.margin,
+            ..Report::default()
+        }
     }
 
     /// The report, or its lowest refusal (the customer's scope, "The report", "Why a call is

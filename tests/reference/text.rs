@@ -6,12 +6,12 @@
 //! own, where not named 0; for a write a number and the buffer's bytes; for a load nothing.
 //!
 //! The numbers of a field are parted by commas. A number is a sum of terms such as `2^24+1`; `N*K`
-//! is N, K times over; `N...M` are the numbers from N to M, and `N..M` those by doubling. A line that
-//! ends with a backslash goes on with the next, after four spaces.
+//! is N, K times over; `N...M` are the numbers from N to M, and `N..M` those by doubling. A line
+//! that ends with a backslash goes on with the next, after four spaces.
 
 use crate::block;
 use crate::fields::Value;
-use crate::meter::{Meter, Report};
+use crate::meter::Meter;
 use crate::printed;
 use crate::records::{Record, Writing};
 use crate::replay::{meter_line, report_line, write_line, Player};
@@ -23,15 +23,6 @@ const CODE: u8 = 2;
 
 /// A field as it is written: its name and its numbers.
 type Field<'a> = (&'a str, Vec<i128>);
-
-fields! {
-    /// What a check is given.
-    #[derive(Default)]
-    pub struct Checking {
-        code: u32,
-        bytes: Vec<u8>,
-    }
-}
 
 /// A number, or two to some power.
 fn term(text: &str) -> Option<i128> {
@@ -131,11 +122,12 @@ fn record(kind: &str, fields: &[Field]) -> Option<Record> {
         "load" => Record::Load(with(meter(), fields)?),
         "show" if fields.is_empty() => Record::Show,
         "lev" => Record::Lev(only("number", fields)?),
-        "check" => {
-            let bytes = Vec::new();
-            let checking = with(Checking { code, bytes }, fields)?;
-            Record::Check(checking.code, checking.bytes)
-        }
+        "check" => match fields {
+            [(name, own), rest @ ..] if *name == "code" => {
+                Record::Check(Value::of(own)?, only("bytes", rest)?)
+            }
+            _ => Record::Check(code, only("bytes", fields)?),
+        },
         "write" => Record::Write(with(Writing::new(code, 0, &[], 512), fields)?),
         _ => return None,
     })
@@ -147,15 +139,7 @@ fn answer(kind: &str, record: &Record, meter_then: &Meter, text: &str) -> Option
         Record::Load(_) => text.is_empty().then(|| kind.to_string()),
         Record::Show => Some(meter_line(&with(meter(), &fields(text)?)?)),
         Record::Report if text.contains('=') => {
-            let own = Report {
-                n: meter_then.n,
-                s: meter_then.s,
-                sq: meter_then.sq,
-                a: meter_then.a,
-                margin: meter_then.setting.margin,
-                ..Report::default()
-            };
-            Some(report_line(&Ok(with(own, &fields(text)?)?)))
+            Some(report_line(&Ok(with(meter_then.totals(), &fields(text)?)?)))
         }
         Record::Write(_) => {
             let (r, buffer) = text.split_once(' ').unwrap_or((text, ""));

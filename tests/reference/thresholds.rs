@@ -10,7 +10,10 @@ use std::ops::RangeInclusive;
 pub const PLACES: usize = 24;
 
 /// How many thresholds a list may have (the customer's request L8).
-pub const LENGTHS: RangeInclusive<u64> = 14..=24;
+pub const LENGTHS: RangeInclusive<u64> = 14..=PLACES as u64;
+
+/// How many the built-in list has (the customer's scope, "One sample").
+pub const BUILT_IN_LENGTH: usize = 15;
 
 /// Where the first threshold may be and where the last, in units (the customer's request L8).
 pub const FIRST: RangeInclusive<u64> = 1 << 22..=1 << 24;
@@ -39,11 +42,14 @@ impl Thresholds {
     pub const BUILT_IN: Thresholds = {
         let mut places = [0; PLACES];
         let mut j = 0;
-        while j < 15 {
+        while j < BUILT_IN_LENGTH {
             places[j] = if j == 0 { 1 << 24 } else { 2 * places[j - 1] };
             j += 1;
         }
-        Thresholds { length: 15, places }
+        Thresholds {
+            length: BUILT_IN_LENGTH as u64,
+            places,
+        }
     };
 
     /// The list of these thresholds. Those that have no place are left out; the length tells of

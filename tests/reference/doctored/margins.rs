@@ -1,6 +1,6 @@
 //! Wrong answers to openings and to lists of calls at a margin (the customer's request L5).
 
-use super::{List, USUAL};
+use super::{altered, List, USUAL};
 use crate::compare::agrees;
 use crate::meter::{Meter, Report};
 use crate::records::Record;
@@ -100,11 +100,7 @@ fn marks(tally: &mut Tally) {
 fn reports(tally: &mut Tally, list: &List) {
     let right = list.meter.report().expect("a crossing");
     let usual = list.meter.at_margin(21635).report().expect("a crossing");
-    let with = |change: &dyn Fn(&mut Report)| {
-        let mut report = right.clone();
-        change(&mut report);
-        report
-    };
+    let with = |change: &dyn Fn(&mut Report)| altered(&right, change);
     let all_but_told = Report {
         margin: right.margin,
         mark: right.mark,

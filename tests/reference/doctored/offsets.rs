@@ -1,6 +1,6 @@
 //! Wrong answers to a list of calls at a standing offset (the customer's request L2).
 
-use super::List;
+use super::{altered, List};
 use crate::block;
 use crate::meter::{Meter, Report};
 use crate::records::Record;
@@ -78,11 +78,7 @@ fn sum_of_differences(right: &Meter) -> i64 {
 
 /// Meters with one thing of the samples as they are, or of x - o, that should be of the other.
 fn fields(tally: &mut Tally, list: &List) {
-    let with = |change: &dyn Fn(&mut Meter)| {
-        let mut meter = list.meter.clone();
-        change(&mut meter);
-        meter
-    };
+    let with = |change: &dyn Fn(&mut Meter)| altered(&list.meter, change);
     let raw = kept([0; 3]);
     let s_moved = with(&|meter| meter.s = sum_of_differences(meter));
     let sq_raw = with(&|meter| meter.sq = raw.sq);

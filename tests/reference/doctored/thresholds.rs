@@ -1,7 +1,7 @@
 //! Wrong answers to openings and to lists of calls with thresholds of the customer's choosing (the
 //! customer's request L8).
 
-use super::{List, USUAL};
+use super::{altered, List, USUAL};
 use crate::compare::agrees;
 use crate::meter::{Meter, Report};
 use crate::rate::RATES;
@@ -9,7 +9,7 @@ use crate::records::Record;
 use crate::replay::{meter_line, report_line, spaced};
 use crate::setting::{Opening, Setting};
 use crate::tally::Tally;
-use crate::thresholds::{changed, doubled, placed, Thresholds, PLACES};
+use crate::thresholds::{changed, doubled, placed, Thresholds, BUILT_IN_LENGTH, PLACES};
 
 /// What breaks where refusal 2 would stop the meter shown, and none is reported on.
 const LOST: [&str; 2] = ["refusal 2 lets it pass", "a meter shown before it"];
@@ -87,10 +87,9 @@ fn answered(tally: &mut Tally, code: u8, margin: i64, list: Vec<u64>, right: u32
     let name = format!("code {code}, margin {margin}, {} thresholds", list.len());
     let mut script = Vec::new();
     let opening = Opening {
-        code,
-        offset: 0,
         margin,
         thresholds: Some(list),
+        ..Opening::from(Setting::usual(code))
     };
     Record::Open(opening).write(&mut script);
     for r in ANSWERS {
@@ -112,7 +111,7 @@ fn unopened(tally: &mut Tally) {
     list.breaks(tally, "report 2", &[]);
     let zero = Meter::zero();
     let hung = Meter {
-        h: placed(&[139; 15]),
+        h: placed(&[139; BUILT_IN_LENGTH]),
         ..zero.clone()
     };
     let rows = [
@@ -183,14 +182,10 @@ fn lists(tally: &mut Tally, list: &List) {
 
 /// Meters with something past the end of their list.
 fn past_end(tally: &mut Tally, list: &List) {
-    let with = |change: &dyn Fn(&mut Meter)| {
-        let mut meter = list.meter.clone();
-        change(&mut meter);
-        meter
-    };
+    let with = |change: &dyn Fn(&mut Meter)| altered(&list.meter, change);
     let rows = [
         ("hangovers", with(&|meter| meter.h[21..].fill(139))),
-        ("a hangover", with(&|meter| meter.h[23] = 1)),
+        ("a hangover", with(&|meter| meter.h[PLACES - 1] = 1)),
         ("a count", with(&|meter| meter.a[21] = 1)),
         ("counts", with(&|meter| meter.a[21..].fill(1))),
     ];
@@ -238,7 +233,10 @@ fn values(tally: &mut Tally, list: &List) {
     let without = shown.replace(&spaced(&setting.thresholds), "");
     list.breaks_shown(tally, &without, &none);
     let cut = |line: String, places: &[u64; PLACES]| {
-        line.replace(&spaced(places), &spaced(&places[..15].to_vec()))
+        line.replace(
+            &spaced(places),
+            &spaced(&places[..BUILT_IN_LENGTH].to_vec()),
+        )
     };
     let fifteen = [&setting.thresholds.places, a, h]
         .into_iter()

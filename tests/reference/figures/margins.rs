@@ -1,6 +1,6 @@
 //! The figures of a chosen margin (the customer's request L5), and what `margins` tells of scripts.
 
-use super::handed_in;
+use super::{handed_in, refused};
 use crate::block;
 use crate::float;
 use crate::generate::settings::REFUSED_MARGINS;
@@ -30,20 +30,15 @@ fn setting(code: u8, margin: i64) -> Setting {
     }
 }
 
-/// Every call on a meter with a margin outside the range is refused and hands it back.
+/// Every call on a meter with a margin outside the range is refused; at the ends of it none is.
 fn meters(tally: &mut Tally) {
     let sound = handed_in(16384, 1 << 30, &[4096; 8]);
-    let block = block::make(2, 16384, &[1]);
     for margin in REFUSED_MARGINS {
-        let meter = sound.at_margin(margin);
-        let name = format!("handed in with {margin}");
-        tally.equal(&name, meter.report(), Err(2));
-        tally.equal(&name, meter.chunk(&[1]), (meter.clone(), 2));
-        tally.equal(&name, meter.chunk(&[]), (meter.clone(), 2));
-        tally.equal(&name, meter.block(&block), (meter.clone(), 2));
+        refused(tally, &sound.at_margin(margin));
     }
     for margin in [1, 22314] {
         let meter = sound.at_margin(margin);
+        let block = block::make(2, 16384, &[1]);
         let found = [meter.chunk(&[1]).1, meter.block(&block).1];
         tally.equal(&format!("handed in with {margin}"), found, [0, 0]);
     }

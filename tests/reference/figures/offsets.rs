@@ -1,12 +1,13 @@
 //! The figures of a standing offset (the customer's request L2).
 
+use crate::doctored::altered;
 use crate::generate::signals::around;
 use crate::meter::{Meter, MOST_SAMPLES};
 use crate::rate::RATES;
 use crate::setting::Setting;
 use crate::speech::voice;
 use crate::tally::Tally;
-use crate::thresholds::placed;
+use crate::thresholds::{placed, BUILT_IN_LENGTH};
 
 /// Offsets at the ends of the range, next to none, and in between.
 const OFFSETS: [i16; 7] = [-32768, -20000, -1, 0, 1, 300, 32767];
@@ -31,7 +32,7 @@ fn openings(tally: &mut Tally) {
     for offset in OFFSETS {
         let fresh = Meter {
             setting: setting(2, offset),
-            h: placed(&[1600; 15]),
+            h: placed(&[1600; BUILT_IN_LENGTH]),
             ..Meter::zero()
         };
         tally.equal("fresh", Meter::open(setting(2, offset)), (fresh, 0));
@@ -57,11 +58,7 @@ fn bounds(tally: &mut Tally) {
                 Q: 1 << 40,
                 ..fresh
             };
-            let past = |change: &dyn Fn(&mut Meter)| {
-                let mut meter = at_bounds.clone();
-                change(&mut meter);
-                meter.refusal_2()
-            };
+            let past = |change: &dyn Fn(&mut Meter)| altered(&at_bounds, change).refusal_2();
             let name = format!("refusal 2 at n {n}, offset {offset}");
             let refused = [
                 past(&|_| ()),

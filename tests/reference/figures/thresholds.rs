@@ -1,7 +1,8 @@
 //! The figures of thresholds of the customer's choosing (the customer's request L8), and what
 //! `listed` tells of scripts.
 
-use super::handed_in;
+use super::{handed_in, refused};
+use crate::doctored::altered;
 use crate::exact::Exact;
 use crate::listed::listed;
 use crate::meter::Meter;
@@ -9,7 +10,7 @@ use crate::rate::RATES;
 use crate::records::{script, Record};
 use crate::setting::{Opening, Setting};
 use crate::tally::Tally;
-use crate::thresholds::{changed, doubled, placed, Thresholds};
+use crate::thresholds::{changed, doubled, placed, Thresholds, BUILT_IN_LENGTH, PLACES};
 
 /// Every figure.
 pub fn thresholds(tally: &mut Tally) {
@@ -40,10 +41,10 @@ fn setting(list: &[u64]) -> Setting {
 fn built_in(tally: &mut Tally) {
     let list = Thresholds::BUILT_IN;
     tally.equal("built in", list, Thresholds::of(&doubled(15, 1 << 24)));
-    for j in 0..15 {
+    for j in 0..BUILT_IN_LENGTH {
         tally.equal("built in, C_j", list.C_(j), Some(8192 * j as i64));
     }
-    tally.equal("built in, past its end", list.C_(15), None);
+    tally.equal("built in, past its end", list.C_(BUILT_IN_LENGTH), None);
 }
 
 /// C_j of single thresholds: some have the same; twice the level of 5 is less than that of 25.
@@ -92,36 +93,22 @@ fn meters(tally: &mut Tally) {
     }
 }
 
-/// Every call on a meter is refused with 2 and hands it back.
-fn refused(tally: &mut Tally, meter: &Meter) {
-    let name = format!("refused: {:?}", meter.setting.thresholds);
-    tally.equal(&name, meter.report(), Err(2));
-    tally.equal(&name, meter.chunk(&[1]), (meter.clone(), 2));
-    tally.equal(&name, meter.chunk(&[]), (meter.clone(), 2));
-    let block = crate::block::make(2, meter.n, &[1]);
-    tally.equal(&name, meter.block(&block), (meter.clone(), 2));
-}
-
 /// Refusal 2 reads counts and hangovers up to the last of 24, and all of a length whose lowest byte
 /// or word is 24.
 fn to_the_end(tally: &mut Tally) {
     let (fresh, _) = Meter::open(setting(&longest()));
     let full = Meter {
         n: 9,
-        a: [8; 24],
+        a: [8; PLACES],
         ..fresh
     };
-    let with = |change: &dyn Fn(&mut Meter)| {
-        let mut meter = full.clone();
-        change(&mut meter);
-        meter.refusal_2()
-    };
+    let with = |change: &dyn Fn(&mut Meter)| altered(&full, change).refusal_2();
     let found = [
         with(&|_| ()),
-        with(&|meter| meter.a[23] = 9),
-        with(&|meter| meter.a = [10; 24]),
-        with(&|meter| meter.h[23] = 1599),
-        with(&|meter| meter.h[23] = 1601),
+        with(&|meter| meter.a[PLACES - 1] = 9),
+        with(&|meter| meter.a = [10; PLACES]),
+        with(&|meter| meter.h[PLACES - 1] = 1599),
+        with(&|meter| meter.h[PLACES - 1] = 1601),
         with(&|meter| meter.setting.thresholds.length += 1 << 8),
         with(&|meter| meter.setting.thresholds.length += 1 << 32),
     ];
@@ -139,12 +126,8 @@ fn past_end(tally: &mut Tally) {
         ..fresh
     };
     tally.equal("counts to the end", full.refusal_2(), false);
-    for place in [14, 20, 23] {
-        let with = |change: &dyn Fn(&mut Meter)| {
-            let mut meter = full.clone();
-            change(&mut meter);
-            meter.refusal_2()
-        };
+    for place in [14, 20, PLACES - 1] {
+        let with = |change: &dyn Fn(&mut Meter)| altered(&full, change).refusal_2();
         let found = [
             with(&|meter| meter.a[place] = 1),
             with(&|meter| meter.h[place] = 1600),
@@ -180,7 +163,7 @@ fn lines(tally: &mut Tally) {
     let own = Opening::from(setting(&changed(doubled(14, 1 << 24), 0, (1 << 24) + 1)));
     let level = handed_in(16384, 1 << 30, &[4096; 8]);
     let mut past = level.clone();
-    past.a[23] = 1;
+    past.a[PLACES - 1] = 1;
     let longer = Thresholds {
         length: 16,
         ..Thresholds::BUILT_IN

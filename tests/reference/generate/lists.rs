@@ -13,7 +13,7 @@ use crate::rate::{Rate, RATES};
 use crate::records::Record;
 use crate::setting::{Opening, Setting, USUAL_MARGIN};
 use crate::speech::voice;
-use crate::thresholds::Thresholds;
+use crate::thresholds::{Thresholds, LENGTHS};
 use std::iter;
 
 /// About the most samples of a list.
@@ -132,7 +132,10 @@ fn thresholds(random: &mut Random, seed: u64, purpose: Purpose) -> Thresholds {
     match purpose {
         Purpose::ThreeCrossings => Thresholds::BUILT_IN,
         Purpose::Level(_) => spacing::lowest(random),
-        Purpose::Margin(_) => spacing::of_length(random, 14 + seed as usize / 6 % 11),
+        Purpose::Margin(_) => {
+            let length = LENGTHS.cycle().nth(seed as usize / 6);
+            spacing::of_length(random, length.expect("it goes round") as usize)
+        }
         _ => spacing::thresholds(random),
     }
 }

@@ -2,7 +2,7 @@
 //! (the customer's request L8).
 
 use super::random::Random;
-use crate::thresholds::{breaks_rise, wrong_end, Thresholds, FIRST, LAST, LENGTHS};
+use crate::thresholds::{breaks_rise, wrong_end, Thresholds, FIRST, LAST, LENGTHS, PLACES};
 
 /// Firsts and lasts to accept: at the bounds of their ranges and next to them.
 const FIRSTS: [u64; 4] = [1 << 22, (1 << 22) + 1, (1 << 24) - 1, 1 << 24];
@@ -74,7 +74,7 @@ fn between(random: &mut Random, length: usize, first: u64, last: u64) -> Option<
 fn with_ends(random: &mut Random, firsts: &[u64], lasts: &[u64]) -> Vec<u64> {
     let (first, last) = (random.pick(firsts), random.pick(lasts));
     let any = random.between(*LENGTHS.start(), *LENGTHS.end()) as usize;
-    let length = random.pick(&[15, 16, 23, 24, any, any, any]);
+    let length = random.pick(&[15, 16, PLACES - 1, PLACES, any, any, any]);
     let lengths = length..;
     let mut lists = lengths.filter_map(|length| between(random, length, first, last));
     lists.next().expect("some length reaches the last")
@@ -136,7 +136,7 @@ pub fn edges(random: &mut Random) -> Vec<Vec<u64>> {
             lists.push(with_ends(random, &[first], &[last]));
         }
     }
-    for length in [15, 18, 24] {
+    for length in [15, 18, PLACES] {
         let list = between(random, length, 1 << 24, 1 << 37);
         lists.push(list.expect("fourteen are enough"));
     }
@@ -162,9 +162,9 @@ pub fn of_wrong_length(random: &mut Random) -> Vec<u64> {
 
 /// Too many thresholds, which rise as they must and have their ends in range.
 fn too_many(random: &mut Random) -> Vec<u64> {
-    let length = random.between(25, 30) as usize;
+    let length = PLACES + random.between(1, 6) as usize;
     let (first, last) = (random.pick(&FIRSTS), random.pick(&LASTS));
-    between(random, length, first, last).expect("25 are enough")
+    between(random, length, first, last).expect("more than a meter has are enough")
 }
 
 /// A list that loads but for one threshold, which is the one before, or less, or more than twice
@@ -193,7 +193,7 @@ pub fn of_wrong_end(random: &mut Random) -> Vec<u64> {
         2 => with_ends(random, &WRONG_FIRSTS, &WRONG_LASTS),
         3 => (0..15).map(|j| 1 << (15 + j)).collect(),
         4 => {
-            let length = random.between(14, 24);
+            let length = random.between(*LENGTHS.start(), *LENGTHS.end());
             let rest = (0..length - 2).map(|j| (1 << 63) + 1 + j);
             [1 << 62, 1 << 63].into_iter().chain(rest).collect()
         }

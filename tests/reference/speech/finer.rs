@@ -10,7 +10,7 @@ use crate::measurement::{self, Levels};
 use crate::rate::Rate;
 use crate::setting::Setting;
 use crate::tally::Tally;
-use crate::thresholds::Thresholds;
+use crate::thresholds::{Thresholds, PLACES};
 
 /// How long the line is measured, in seconds.
 const SECONDS: f64 = 30.0;
@@ -48,7 +48,7 @@ const FAR: f64 = 0.5;
 
 /// An operator's list: the built-in thresholds, and three more in each doubling from 4 intervals to
 /// 32, 1.5 dB apart, where the threshold of quiet speech lies.
-pub const FINER: [u64; 24] = [
+pub const FINER: [u64; PLACES] = [
     1 << 24,
     1 << 25,
     1 << 26,
