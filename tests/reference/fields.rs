@@ -215,7 +215,7 @@ impl Value for bool {
     }
 }
 
-/// A number of two words, the high one first; in a text also one that fits the low one.
+/// A number of two words, the high one first; in a text it may be one number.
 impl Value for u128 {
     fn read(reader: &mut Reader) -> Option<Self> {
         let (high, low) = (u64::read(reader)?, u64::read(reader)?);

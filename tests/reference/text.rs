@@ -24,7 +24,7 @@ const CODE: u8 = 2;
 /// A field as it is written: its name and its numbers.
 type Field<'a> = (&'a str, Vec<i128>);
 
-/// A number, or two to some power.
+/// A number, or a power of one.
 fn term(text: &str) -> Option<i128> {
     match text.split_once('^') {
         Some((base, power)) => base.parse::<i128>().ok()?.checked_pow(power.parse().ok()?),
@@ -163,7 +163,7 @@ fn each<T>(text: &str, mut part: impl FnMut(&str) -> Option<T>) -> Result<Vec<T>
         .lines()
         .filter(|line| !line.is_empty() && !line.starts_with('#'));
     lines
-        .map(|line| part(line).ok_or(format!("not a record: {line}")))
+        .map(|line| part(line).ok_or_else(|| format!("not a record: {line}")))
         .collect()
 }
 
@@ -204,13 +204,11 @@ fn value(line: &str, kind: &str, name: &str) -> Option<String> {
 /// are parted by commas.
 pub fn values(kind: &str, names: &[&str], lines: &str) -> Result<String, String> {
     let mut found = String::new();
-    for line in lines
-        .lines()
-        .filter(|line| line.split(' ').next() == Some(kind))
-    {
+    let of_kind = |line: &&str| line.split(' ').next() == Some(kind);
+    for line in lines.lines().filter(of_kind) {
         let values = names.iter().map(|name| value(line, kind, name));
         let values: Option<Vec<String>> = values.collect();
-        let values = values.ok_or(format!("not {} of a {kind}: {line}", names.join(" ")))?;
+        let values = values.ok_or_else(|| format!("not {} of: {line}", names.join(" ")))?;
         if values.iter().all(|value| !value.is_empty()) {
             found += &(values.join(" ") + "\n");
         }
