@@ -195,7 +195,7 @@ impl Value for u32 {
     }
 }
 
-/// A byte of 1 for true and of 0 for false, or of anything else, which is true.
+/// 1 for true and 0 for false; in a record any other byte is true as well.
 impl Value for bool {
     fn read(reader: &mut Reader) -> Option<Self> {
         u8::read(reader).map(|byte| byte != 0)

@@ -15,6 +15,7 @@ use crate::tally::Tally;
 
 /// Every figure.
 pub fn margins(tally: &mut Tally) {
+    openings(tally);
     meters(tally);
     kept(tally);
     decibels(tally);
@@ -27,6 +28,15 @@ fn setting(code: u8, margin: i64) -> Setting {
         offset: 300,
         margin,
         ..Setting::usual(code)
+    }
+}
+
+/// An opening with a margin outside the range, at a code that is named and not, leaves all zeros.
+fn openings(tally: &mut Tally) {
+    for margin in REFUSED_MARGINS {
+        let found = [2, 0].map(|code| Meter::open(setting(code, margin)));
+        let expected = [17, 1].map(|r| (Meter::zero(), r));
+        tally.equal(&format!("opened with {margin}"), found, expected);
     }
 }
 
