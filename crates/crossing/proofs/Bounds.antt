@@ -51,6 +51,31 @@ less-two sq a e g u d s0 s1 a0 a1 l h b =
     (le-trans (pow-mono {i = u + (lev a + 2)} {j = 2 + d + lev sq} (omega arith))
     (le-trans (le-of-eq (pow-add 2 (2 + d) (lev sq) ∙ ap (λ (x : ℕ). x * 2 ^ lev sq) (pow-add 2 2 d))) (mul-le-mul-left (4 * 2 ^ d) (facts .at-most sq s0 s1))))))
 
+-- (x − y) + 2 = (x + 2) − y
+two-more : (x y : ℕ) → pos x -ℤ pos y +ℤ pos 2 ≡ pos (x + 2) -ℤ pos y
+two-more x y = +ℤ-assoc (pos x) (negℤ (pos y)) (pos 2) ∙ ap (λ (z : ℤ). pos x +ℤ z) (+ℤ-comm (negℤ (pos y)) (pos 2)) ∙ sym (+ℤ-assoc (pos x) (pos 2) (negℤ (pos y)))
+
+-- a level A is less than two steps from that of sq over a count: less than two below that over e, and above that over e′
+pub record Around (A : ℤ) (sq e e′ : ℕ) : Type 0 where
+  pub plus : sq ^ 4096 * 2 ^ below (A +ℤ pos 2) < 2 ^ above (A +ℤ pos 2) * e ^ 4096
+  pub less : 2 ^ above A * e′ ^ 4096 < 4 * 2 ^ below A * sq ^ 4096
+
+-- S − g is, with g between the logarithms of two counts, and e and e′ on their outer sides
+around : (sq g a a′ e e′ : ℕ) → 1 ≤ sq → sq ≤ 2 ^ 80 → 1 ≤ a → a ≤ 2 ^ 80 → 1 ≤ a′ → a′ ≤ 2 ^ 80 → a ≤ e → e′ ≤ a′ → lev a′ ≤ g → g ≤ lev a
+    → Around (pos (lev sq) -ℤ pos g) sq e e′
+around sq g a a′ e e′ s0 s1 a0 a1 b0 b1 low high least most =
+    record {
+      plus =
+          subst (λ (z : ℤ). sq ^ 4096 * 2 ^ below z < 2 ^ above z * e ^ 4096) (sym (two-more (lev sq) g))
+          (plus-two sq a e g _ _ s0 s1 a0 a1 low most (balance (lev sq + 2) g));
+      less = less-two sq a′ e′ g _ _ s0 s1 b0 b1 high least (balance (lev sq) g);
+    }
+
+-- the long-term level: L is less than two steps from the exact level over n, either way
+pub long-term : (sq n : ℕ) → 1 ≤ sq → sq ≤ 2 ^ 80 → 1 ≤ n → n ≤ 2 ^ 80 → Around (longTerm (pos (lev sq)) n) sq n n
+unfolding longTerm
+long-term sq n s0 s1 n0 n1 = around sq (lev n) n n n n s0 s1 n0 n1 n0 n1 (le-refl n) (le-refl n) (le-refl (lev n)) (le-refl (lev n))
+
 -- ---- what a crossing is
 
 both : (x y : Bool) → x && y ≡ true → (x ≡ true) × (y ≡ true)
@@ -190,24 +215,8 @@ over-margin M s T a j c =
     subst (λ (z : ℤ). leZ (C +ℤ M) z ≡ true) (sym (c .level))
     (at-most-trans (C +ℤ M) (pos s -ℤ pos l) (pos s -ℤ pos (c .g)) (not-over (pos s -ℤ pos l) (C +ℤ M) (ap (λ (z : ℤ). ltZ z (pos 0)) (sym e) ∙ c .over)) (less-taken s (c .g) l (c .most)))
 
-pub record Bounded (M : ℤ) (sq : ℕ) (T : Thresholds) (a : List Samples) (j e e′ : ℕ) : Type 0 where
-  pub plus : let A = activeLevel M (pos (lev sq)) T a j in sq ^ 4096 * 2 ^ below (A +ℤ pos 2) < 2 ^ above (A +ℤ pos 2) * e ^ 4096
-  pub less : let A = activeLevel M (pos (lev sq)) T a j in 2 ^ above A * e′ ^ 4096 < 4 * 2 ^ below A * sq ^ 4096
-
--- (x − y) + 2 = (x + 2) − y
-two-more : (x y : ℕ) → pos x -ℤ pos y +ℤ pos 2 ≡ pos (x + 2) -ℤ pos y
-two-more x y = +ℤ-assoc (pos x) (negℤ (pos y)) (pos 2) ∙ ap (λ (z : ℤ). pos x +ℤ z) (+ℤ-comm (negℤ (pos y)) (pos 2)) ∙ sym (+ℤ-assoc (pos x) (pos 2) (negℤ (pos y)))
-
 pub bounded : (M : ℤ) (sq : ℕ) (T : Thresholds) (a : List Samples) (j e e′ : ℕ) → 1 ≤ sq → sq ≤ 2 ^ 80
-    → (c : Crossed M (pos (lev sq)) T a j) → activity a (c .i) ≤ 2 ^ 80 → activity a (c .i) ≤ e → e′ ≤ activity a j → Bounded M sq T a j e e′
+    → (c : Crossed M (pos (lev sq)) T a j) → activity a (c .i) ≤ 2 ^ 80 → activity a (c .i) ≤ e → e′ ≤ activity a j → Around (activeLevel M (pos (lev sq)) T a j) sq e e′
 bounded M sq T a j e e′ s0 s1 c few low high =
-    let s = lev sq in
-    let g = c .g in
-    record {
-      plus =
-          subst (λ (z : ℤ). sq ^ 4096 * 2 ^ below z < 2 ^ above z * e ^ 4096) (sym (ap (λ (z : ℤ). z +ℤ pos 2) (c .level) ∙ two-more s g))
-          (plus-two sq (activity a (c .i)) e g _ _ s0 s1 (le-trans (c .alive) (c .counts)) few low (c .most) (balance (s + 2) g));
-      less =
-          subst (λ (z : ℤ). 2 ^ above z * e′ ^ 4096 < 4 * 2 ^ below z * sq ^ 4096) (sym (c .level))
-          (less-two sq (activity a j) e′ g _ _ s0 s1 (c .alive) (le-trans (c .counts) few) high (c .least) (balance s g));
-    }
+    subst (λ (A : ℤ). Around A sq e e′) (sym (c .level))
+    (around sq (c .g) (activity a (c .i)) (activity a j) e e′ s0 s1 (le-trans (c .alive) (c .counts)) few (c .alive) (le-trans (c .counts) few) low high (c .least) (c .most))

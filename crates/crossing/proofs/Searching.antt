@@ -1,7 +1,7 @@
 -- The search for the highest place at which a test holds: what is found lies in range and holds the test, which no higher place there does, and
--- where nothing is found no place does. So there is a highest such place exactly where there is a lowest.
+-- where nothing is found no place does. So there is a highest such place wherever there is any.
 use mathlib.Core.Bool.{Bool, true, false, cond, true≢false}
-use mathlib.Core.Logic.{_↔_, ⊎-elim}
+use mathlib.Core.Logic.{⊎-elim}
 use mathlib.Core.Option.{Option, none, some}
 use mathlib.Core.Path.{_≡_, refl, sym, ap, _∙_, subst}
 use Prim.Native.Nat.{ℕ, zero, suc, _≤_, _<_}
@@ -61,30 +61,10 @@ pub past : (f : ℕ → Bool) (k : ℕ) → f k ≡ false → highestBelow f (su
 unfolding highestBelow
 past f k e = simp e
 
--- ---- a highest exactly where a lowest
-
--- the lowest place below k at which f holds is p
-pub record Lowest (f : ℕ → Bool) (k p : ℕ) : Type 0 where
-  pub place : p < k
-  pub holds : f p ≡ true
-  pub none-lower : (l : ℕ) → l < p → f l ≡ false
-
 -- from any place at which f holds the search finds the highest
-highest : (f : ℕ → Bool) (k p : ℕ) → p < k → f p ≡ true → (q : ℕ) × Highest f k q
+pub highest : (f : ℕ → Bool) (k p : ℕ) → p < k → f p ≡ true → (q : ℕ) × Highest f k q
 highest f k p l h = go (highestBelow f k) refl
   where
     go : (o : Option ℕ) → highestBelow f k ≡ o → (q : ℕ) × Highest f k q
     go none e = absurd (true≢false (sym h ∙ not-found f k e p l))
     go (some q) e = (q, found f k q e)
-
--- and, repeated below what it finds, the lowest; m bounds how often
-lowest : (f : ℕ → Bool) (k m p : ℕ) → p < m → p < k → f p ≡ true → (q : ℕ) × Lowest f k q
-lowest f k zero p b l h = absurd (omega arith)
-lowest f k (suc m) p b l h = go (λ q s. lowest f k m q (omega (arith, s .place)) (omega (arith, s .place)) (s .holds)) (highestBelow f p) refl
-  where
-    go : ((q : ℕ) → Highest f p q → (r : ℕ) × Lowest f k r) → (o : Option ℕ) → highestBelow f p ≡ o → (r : ℕ) × Lowest f k r
-    go on none e = (p, record { place = l; holds = h; none-lower = not-found f p e })
-    go on (some q) e = on q (found f p q e)
-
-pub highest-lowest : (f : ℕ → Bool) (k : ℕ) → ((p : ℕ) × Highest f k p) ↔ ((p : ℕ) × Lowest f k p)
-highest-lowest f k = (λ s. lowest f k k (s .0) (s .1 .place) (s .1 .place) (s .1 .holds), λ s. highest f k (s .0) (s .1 .place) (s .1 .holds))

@@ -24,7 +24,8 @@ use Rattle.sample.specs.Sample.{freshState, summed, counts, hangovers, stateAft
 use Rattle.sample.proofs.Activity.{Under, under-refl, under-step}
 use Rattle.exact.specs.Exact.{E, startAt, distance, reaches, countNext, hangoverNext, takeOne, takeAll}
 use Rattle.exact.specs.TwoCards.{Alike}
-use Rattle.exact.proofs.Tied.{fresh-under, power-next, countOf, hangOf, both-at}
+use Rattle.exact.proofs.Powers.{power-next}
+use Rattle.exact.proofs.Tied.{fresh-under, countOf, hangOf, both-at}
 
 -- ---- one step
 

@@ -2,16 +2,19 @@
 use mathlib.Core.Path.{sym, subst}
 use Rattle.block.proofs.Laws.{host-given}
 use Rattle.block.proofs.Made.{write-given, unwritten, afresh}
+use Rattle.level.proofs.Laws.{facts}
+use Rattle.rate.proofs.Laws.{row-keeps}
 use Rattle.thresholds.proofs.Laws.{built-in-is, built-in-past, loaded}
 use Rattle.crossing.proofs.BuiltIn.{built-in-level}
 use Rattle.meter.specs.Opened.{Fresh}
-use Rattle.meter.proofs.Laws.{open-given, chunk-given, block-given, report-given, refused-chunk, refused-block, report-meter, refused-report, refused-open, zeros-chunk, zeros-block, zeros-report, opened, fresh-fields, factor-never-above, percent-never-smaller, block-taken, block-samples, chunk-samples, empty-chunk}
+use Rattle.meter.proofs.Laws.{open-given, chunk-given, block-given, report-given, refused-chunk, refused-block, report-meter, refused-report, refused-open, zeros-chunk, zeros-block, zeros-report, opened, fresh-fields, factor-never-above, percent-never-smaller, block-taken, block-samples, chunk-samples, empty-chunk, levels-exist}
 use Rattle.meter.proofs.Outcome.{answered}
 use Rattle.exact.specs.Claim.{Claim}
 use Rattle.exact.specs.Demands.{Demand1, Demand2}
 use Rattle.exact.proofs.Calls.{accepted-setting, usual-opens}
-use Rattle.exact.proofs.Crossings.{highest-lowest, unaffected}
+use Rattle.exact.proofs.Crossings.{unaffected}
 use Rattle.exact.proofs.Demand3.{demand3}
+use Rattle.exact.proofs.Envelope.{envelope-bound}
 use Rattle.exact.proofs.Lost.{nothing-lost, measured}
 use Rattle.exact.proofs.Margins.{any-margin}
 use Rattle.exact.proofs.NoOffset.{no-offset}
@@ -52,7 +55,6 @@ demand2 =
       usual-opens = usual-opens;
       reported = answered;
       factor = factor-never-above;
-      highest-lowest = highest-lowest;
       unaffected = unaffected;
       percent-never-falls = percent-never-smaller;
       block-taken = block-taken;
@@ -64,4 +66,14 @@ demand2 =
     }
 
 pub claim : Claim
-claim = record { demand1 = demand1; demand2 = demand2; demand3 = demand3; two-cards = two-cards }
+claim =
+    record {
+      demand1 = demand1;
+      demand2 = demand2;
+      demand3 = demand3;
+      facts = facts;
+      levels-exist = levels-exist;
+      rates = row-keeps;
+      envelope = envelope-bound;
+      two-cards = two-cards;
+    }

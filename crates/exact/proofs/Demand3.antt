@@ -3,7 +3,7 @@
 use mathlib.Core.Bool.{Bool, true, false, cond, false≢true}
 use mathlib.Core.List.{List, [], _∷_}
 use mathlib.Core.Path.{_≡_, refl, sym, ap, _∙_, subst, subst₂}
-use Prim.Native.Nat.{ℕ, _+_, _*_, _^_, _≤_, _<_}
+use Prim.Native.Nat.{ℕ, _+_, _*_, _≤_, _<_}
 use native.Mathlib.Omega.{arith}
 use borrow.Author.Tests.{lt-ltb, ltb-true, leb-true}
 use lib.IntN.{ℤ, pos, negsuc, _+ℤ_}
@@ -12,13 +12,12 @@ use Rattle.level.specs.Types.{activity, twoWords}
 use Rattle.thresholds.specs.declared.Thresholds.{Thresholds}
 use Rattle.thresholds.specs.Lists.{places, builtIn, builtInCount, thresholdOf}
 use Rattle.crossing.specs.Crossing.{activeLevel}
-use Rattle.crossing.specs.Exponents.{above, below}
 use Rattle.thresholds.proofs.Laws.{built-in-count, loaded}
 use Rattle.rate.specs.Rates.{rowOf}
 use Rattle.setting.specs.declared.Setting.{Setting}
 use Rattle.setting.specs.Settings.{dOf}
 use Rattle.crossing.specs.Levels.{levelOfThreshold}
-use Rattle.crossing.proofs.Bounds.{Crossed, Bounded, bounded, over-margin}
+use Rattle.crossing.proofs.Bounds.{Around, Crossed, bounded, over-margin}
 use Rattle.crossing.proofs.BuiltIn.{built-in-level}
 use Rattle.meter.specs.declared.Meter.{Meter}
 use Rattle.meter.specs.declared.Report.{Report}
@@ -30,11 +29,13 @@ use Rattle.meter.proofs.Laws.{Levels, with-levels, crossing-of}
 use Rattle.meter.proofs.Outcome.{answered}
 use Rattle.meter.proofs.Possible.{passes, falling}
 use Rattle.exact.specs.Calls.{Call, Typed, broughtBy}
-use Rattle.exact.specs.Demands.{TypedOffset, Opens, meterAfter, exactAt, exactAfter, countAt, LevelBounds, EmptyAt, Demand3}
-use Rattle.exact.specs.Exact.{E, start, startAt, takeAll, accepts, fed, exactly}
+use Rattle.exact.specs.Demands.{TypedOffset, Opens, meterAfter, exactAt, exactAfter, takenFrom, countAt, LevelBounds, EmptyAt, Demand3}
+use Rattle.exact.specs.Exact.{E, start, startAt, takeAll, accepts, fed, exactly, took}
+use Rattle.exact.specs.Worked.{Worked}
 use Rattle.exact.proofs.Calls.{Good, good-possible, good-after, good-open, same-answers, same-samples}
-use Rattle.exact.proofs.Lost.{measured, exact-squares}
+use Rattle.exact.proofs.Lost.{exactly-is, measured, exact-squares}
 use Rattle.exact.proofs.Tied.{same-code}
+use Rattle.exact.proofs.Worked.{at-first, worked}
 
 -- E keeps its code
 kept-code : (calls : List Call) (e : E) → exactly e calls .code ≡ e .code
@@ -59,7 +60,7 @@ module _ (m : Meter) (e : E) (g : Good m e) (r : Report) (L : Levels m r) where
   abbrev T : Thresholds
   T = m .setting .thresholds
 
-  bounds : Bounded (marginOf m) (twoWords (m .state .sums .sq)) T (m .state .a) (L .j) (countAt e (thresholdOf T (cross .i))) (countAt e (thresholdOf T (L .j) + rowOf (e .code) .d))
+  bounds : Around (activeLevel (marginOf m) (powerOf m) T (m .state .a) (L .j)) (twoWords (m .state .sums .sq)) (countAt e (thresholdOf T (cross .i))) (countAt e (thresholdOf T (L .j) + rowOf (e .code) .d))
   bounds =
       let at = L .used .crossing .place in
       let low : cross .i < T .count = omega (arith, cross .reach) in
@@ -87,17 +88,10 @@ module _ (m : Meter) (e : E) (g : Good m e) (r : Report) (L : Levels m r) where
 
   pub level-bounds : LevelBounds T (marginOf m) r e (rowOf (e .code) .d)
   level-bounds =
-      let b = bounds in
       let D = rowOf (e .code) .d in
-      let l = sym (L .report .lower ∙ cross .lower) in
-      let u = sym (L .report .upper) in
-      record {
-        at-least-margin = over;
-        plus-two = subst₂ (λ (A : ℤ) (i : ℕ). e .sq ^ 4096 * 2 ^ below (A +ℤ pos 2) < 2 ^ above (A +ℤ pos 2) * countAt e (thresholdOf T i) ^ 4096) (sym (L .report .A)) l
-            (subst (λ (s : ℕ). s ^ 4096 * 2 ^ below (activeLevel (marginOf m) (powerOf m) T (m .state .a) (L .j) +ℤ pos 2) < 2 ^ above (activeLevel (marginOf m) (powerOf m) T (m .state .a) (L .j) +ℤ pos 2) * countAt e (thresholdOf T (cross .i)) ^ 4096) (g .tied .power) (b .plus));
-        less-two = subst₂ (λ (A : ℤ) (i : ℕ). 2 ^ above A * countAt e (thresholdOf T i + D) ^ 4096 < 4 * 2 ^ below A * e .sq ^ 4096) (sym (L .report .A)) u
-            (subst (λ (s : ℕ). 2 ^ above (activeLevel (marginOf m) (powerOf m) T (m .state .a) (L .j)) * countAt e (thresholdOf T (L .j) + D) ^ 4096 < 4 * 2 ^ below (activeLevel (marginOf m) (powerOf m) T (m .state .a) (L .j)) * s ^ 4096) (g .tied .power) (b .less));
-      }
+      let exact = subst₂ (λ (A : ℤ) (s : ℕ). Around A s (countAt e (thresholdOf T (cross .i))) (countAt e (thresholdOf T (L .j) + D))) (sym (L .report .A)) (g .tied .power) bounds in
+      let b = subst₂ (λ (i j : ℕ). Around (r .levels .active .0) (e .sq) (countAt e (thresholdOf T i)) (countAt e (thresholdOf T j + D))) (sym (L .report .lower ∙ cross .lower)) (sym (L .report .upper)) exact in
+      record { at-least-margin = over; plus-two = b .plus; less-two = b .less }
 
 -- ---- past the end of the list
 
@@ -109,6 +103,11 @@ empty-at m e g j l h =
       hangover = omega (arith, g .tied .h-past j h l);
     }
 
+-- ---- the samples: the meter takes those that E takes
+
+pub taken-alike : (c : Setting) (calls : List Call) → TypedOffset c → Opens c → Typed calls → takenFrom c calls ≡ took (exactAt c) calls
+taken-alike c calls t z f = same-samples calls (openCall c .meter) (exactAt c) f (good-open c t z)
+
 -- ---- the whole
 
 pub demand3 : (c : Setting) (calls : List Call) → TypedOffset c → Opens c → Typed calls → Demand3 c calls
@@ -118,9 +117,12 @@ demand3 c calls t z f =
     let g = good-after calls (openCall c .meter) (exactAt c) f first in
     let ok = passes _ (good-possible _ _ g) in
     record {
+      at-first = at-first c;
+      worked = subst (Worked (exactAt c) (took (exactAt c) calls)) (sym (exactly-is calls (exactAt c))) (worked (took (exactAt c) calls) (exactAt c));
       same-calls = same-answers calls (openCall c .meter) (exactAt c) f first;
-      same-samples = same-samples calls (openCall c .meter) (exactAt c) f first;
+      same-total = sym (g .tied .taken);
       exact-squares = exact-squares c calls;
+      same-squares = sym (g .tied .power);
       at-most = subst (λ (T : Thresholds). (j : ℕ) → j < T .count → activity (meterAfter c calls .state .a) j ≤ countAt (exactAfter c calls) (thresholdOf T j)) list-is (λ j l. g .tied .each j l .high .count);
       at-least = subst₂ (λ (T : Thresholds) (k : ℕ). (j : ℕ) → j < T .count → countAt (exactAfter c calls) (thresholdOf T j + rowOf k .d) ≤ activity (meterAfter c calls .state .a) j) list-is code-is (λ j l. g .tied .each j l .low .count);
       never-rises = subst (λ (T : Thresholds). (i j : ℕ) → i ≤ j → j < T .count → activity (meterAfter c calls .state .a) j ≤ activity (meterAfter c calls .state .a) i) list-is (falling (meterAfter c calls) (good-possible _ _ g));

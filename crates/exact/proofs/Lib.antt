@@ -1,14 +1,16 @@
 mod Ahead
 mod Calls
 mod Envelope
+mod Powers
 mod Written
 pub mod Claim
 pub mod Crossings
 pub mod Demand3
-pub mod Fractions
+mod Guard
 pub mod Lost
 pub mod Margins
 pub mod NoOffset
 pub mod Signs
 pub mod Tied
 pub mod TwoCards
+pub mod Worked

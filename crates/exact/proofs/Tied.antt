@@ -4,11 +4,10 @@ use mathlib.Core.Bool.{true}
 use mathlib.Core.List.{List, [], _∷_}
 use mathlib.Core.Path.{_≡_, refl, sym, _∙_, ap, subst}
 use Prim.Native.Nat.{ℕ, _+_, _*_, _-_, _^_, _≤_, _<_, zero-le}
-use native.Mathlib.Nat.{le-trans, le-of-eq, mul-le-mul, one-le-pow, pow-suc, zero-add}
-use native.Mathlib.Numerals.{add-one}
+use native.Mathlib.Nat.{le-trans, le-of-eq, mul-le-mul}
 use native.Mathlib.Omega.{arith}
 use borrow.Author.Tests.{leb-true, le-leb}
-use lib.Dec.{leb, lit<, lit≤}
+use lib.Dec.{leb}
 use lib.IntN.{ℤ, natAbs}
 use lib.ListN.{getD, length}
 use mir.Syntax.{w16}
@@ -31,9 +30,7 @@ use Rattle.thresholds.proofs.Places.{each-at, up-to-at, up-to-past, filled-at}
 use Rattle.sample.proofs.Signs.{small, size-small}
 use Rattle.signed.proofs.Sizes.{abs-sum}
 use Rattle.exact.specs.Exact.{E, startAt, distance, reaches, countNext, hangoverNext, takeOne, takeAll}
-use Rattle.rate.specs.Rates.{Ceiling}
-use Rattle.exact.specs.Envelope.{envelopeAfter, exactEnvelopeAfter, EnvelopeBound}
-use Rattle.exact.proofs.Envelope.{Near, near-step, near-zero, near-below, fed-exact, fed-near, then-exact, then-rounded}
+use Rattle.exact.proofs.Envelope.{Follows, follows-one, follows-first, then-exact, then-rounded}
 
 -- what E counts by, as the meter holds it
 abbrev pub by : E → Counting
@@ -79,8 +76,7 @@ pub record Between (D c n a h : ℕ) (e : E) : Type 0 where
 pub record Tied (T : Thresholds) (D : ℕ) (m : State) (e : E) : Type 0 where
   pub taken : m .sums .n .0 ≡ e .y
   pub power : twoWords (m .sums .sq) ≡ e .sq
-  pub p : Near (2 ^ 20) (e .K) 1 ((2 ^ 20) ^ (e .y)) (m .sums .p) (e .pn)
-  pub q : Near (2 ^ 20) (e .K) 2 ((2 ^ 20) ^ (e .y + 1)) (m .sums .q) (e .qn)
+  pub envelope : Follows (m .sums .p) (m .sums .q) e
   pub each : (j : ℕ) → j < T .count → Between D (thresholdOf T j) (m .sums .n .0) (activity (m .a) j) (getD (m .h) j 0) e
   pub falls : (j : ℕ) → j + 1 < T .count → Under (activity (m .a) (j + 1)) (getD (m .h) (j + 1) 0) (activity (m .a) j) (getD (m .h) j 0)
   pub a-past : (j : ℕ) → j < places → T .count ≤ j → activity (m .a) j ≤ 0
@@ -127,12 +123,6 @@ both-at k k′ f g f′ g′ i j m m′ l l′ u =
 more : (s n y : ℕ) → s ≤ n * 2 ^ 32 → y ≤ 2 ^ 16 * 2 ^ 16 → s + y ≤ (n + 1) * 2 ^ 32
 more s n y h k = omega arith
 
-power-pos : (i : ℕ) → 0 < (2 ^ 20) ^ i
-power-pos i = one-le-pow i (2 ^ 20) (lit≤ tt)
-
-pub power-next : (i : ℕ) → (2 ^ 20) ^ i * 2 ^ 20 ≡ (2 ^ 20) ^ (i + 1)
-power-next i = sym (ap (λ (k : ℕ). (2 ^ 20) ^ k) (add-one i) ∙ pow-suc (2 ^ 20) i)
-
 module _ (T : Thresholds) (R : Rising T) (D : ℕ) (m : State) (e : E) (x : ℤ) (k0 : 0 < e .K) (kG : e .K ≤ 2 ^ 20) (wide : 2 ^ 21 ≤ D * e .K) (sx : natAbs x ≤ 2 ^ 15) (so : size (e .o) x ≤ 2 ^ 16) (t : Tied T D m e) where
   -- the envelope after the sample, of the meter and of E
   P : ℕ
@@ -141,48 +131,30 @@ module _ (T : Thresholds) (R : Rising T) (D : ℕ) (m : State) (e : E) (x : ℤ)
   Q : ℕ
   Q = smooth (e .K) (m .sums .q) P
 
-  W : ℕ
-  W = (2 ^ 20) ^ (e .y + 1)
-
-  pn : ℕ
-  pn = e .pn * (2 ^ 20 - e .K) + distance (e .o) x * 2 ^ 24 * (2 ^ 20) ^ (e .y) * e .K
-
-  qn : ℕ
-  qn = e .qn * (2 ^ 20 - e .K) + pn * e .K
-
-  p-near : Near (2 ^ 20) (e .K) 1 W P pn
-  unfolding P W pn rectified size distance
-  p-near =
-      subst (λ (w : ℕ). Near (2 ^ 20) (e .K) 1 w P pn) (power-next (e .y))
-      (near-step (e .K) 0 ((2 ^ 20) ^ (e .y)) (m .sums .p) (e .pn) (size (e .o) x * 2 ^ 24) (distance (e .o) x * 2 ^ 24 * (2 ^ 20) ^ (e .y)) k0 kG (power-pos (e .y)) (t .p)
-      (fed-exact (2 ^ 20) (e .K) ((2 ^ 20) ^ (e .y)) (size (e .o) x * 2 ^ 24)))
-
-  q-near : Near (2 ^ 20) (e .K) 2 ((2 ^ 20) ^ (e .y + 1 + 1)) Q qn
-  unfolding Q qn W
-  q-near =
-      subst (λ (w : ℕ). Near (2 ^ 20) (e .K) 2 w Q qn) (power-next (e .y + 1))
-      (near-step (e .K) 1 W (m .sums .q) (e .qn) P pn k0 kG (power-pos (e .y + 1)) (t .q) (fed-near p-near))
+  near : Follows P Q (takeOne e x)
+  unfolding P Q
+  near = follows-one (m .sums .p) (m .sums .q) e x k0 kG (t .envelope)
 
   -- E is on at a threshold whenever the meter is, and the meter whenever E is on at the threshold raised by D
-  on-exact : (j : ℕ) → leb (thresholdOf T j) Q ≡ true → reaches (e .y + 1) qn (thresholdOf T j) ≡ true
-  unfolding reaches
-  on-exact j h = le-leb _ _ (then-exact (thresholdOf T j) q-near (leb-true _ _ h))
+  on-exact : (j : ℕ) → leb (thresholdOf T j) Q ≡ true → reaches (takeOne e x .y) (takeOne e x .qn) (thresholdOf T j) ≡ true
+  unfolding reaches takeOne
+  on-exact j h = le-leb _ _ (then-exact (thresholdOf T j) (near .q) (leb-true _ _ h))
 
-  on-rounded : (j : ℕ) → reaches (e .y + 1) qn (thresholdOf T j + D) ≡ true → leb (thresholdOf T j) Q ≡ true
-  unfolding reaches
+  on-rounded : (j : ℕ) → reaches (takeOne e x .y) (takeOne e x .qn) (thresholdOf T j + D) ≡ true → leb (thresholdOf T j) Q ≡ true
+  unfolding reaches takeOne
   on-rounded j h =
-      le-leb _ _ (then-rounded (2 ^ 20) (e .K) 2 ((2 ^ 20) ^ (e .y + 1 + 1)) Q qn D (thresholdOf T j) wide q-near (leb-true _ _ h))
+      le-leb _ _ (then-rounded (2 ^ 20) (e .K) 2 ((2 ^ 20) ^ (e .y + 1 + 1)) Q (takeOne e x .qn) D (thresholdOf T j) wide (near .q) (leb-true _ _ h))
 
   on-lower : (j : ℕ) → j + 1 < T .count → leb (thresholdOf T (j + 1)) Q ≡ true → leb (thresholdOf T j) Q ≡ true
   on-lower j l h = le-leb _ _ (le-trans (R .rises j (j + 1) (omega arith) l) (leb-true _ _ h))
 
   counter : (j : ℕ) → j < T .count → Between D (thresholdOf T j) (m .sums .n .0 + 1) (countOf T (e .I) Q m j) (hangOf T (e .I) Q m j) (takeOne e x)
-  unfolding takeOne countNext hangoverNext counted hung countOf hangOf qn pn
+  unfolding takeOne countNext hangoverNext counted hung countOf hangOf
   counter j l =
       let b = t .each j l in
       record {
-        low = under-step (e .I) _ _ _ _ (reaches (e .y + 1) qn (thresholdOf T j + D)) (leb (thresholdOf T j) Q) (on-rounded j) (b .low);
-        high = under-step (e .I) _ _ _ _ (leb (thresholdOf T j) Q) (reaches (e .y + 1) qn (thresholdOf T j)) (on-exact j) (b .high);
+        low = under-step (e .I) _ _ _ _ (reaches (takeOne e x .y) (takeOne e x .qn) (thresholdOf T j + D)) (leb (thresholdOf T j) Q) (on-rounded j) (b .low);
+        high = under-step (e .I) _ _ _ _ (leb (thresholdOf T j) Q) (reaches (takeOne e x .y) (takeOne e x .qn) (thresholdOf T j)) (on-exact j) (b .high);
         few = le-trans (counted-le (e .I) (leb (thresholdOf T j) Q) (activity (m .a) j) (getD (m .h) j 0)) (omega (arith, b .few));
         held = hung-le (e .I) (leb (thresholdOf T j) Q) (getD (m .h) j 0) (b .held);
       }
@@ -192,13 +164,12 @@ module _ (T : Thresholds) (R : Rising T) (D : ℕ) (m : State) (e : E) (x : ℤ)
   P-max = smooth-le (e .K) (2 ^ 40) (m .sums .p) (size (e .o) x * 2 ^ 24) kG (t .p-max) (omega (arith, so))
 
   pub tied-step : Tied T D (stateAfterOne (by e) T m x) (takeOne e x)
-  unfolding stateAfterOne summed counts hangovers countOf hangOf takeOne P Q W pn qn size distance
+  unfolding stateAfterOne summed counts hangovers countOf hangOf takeOne P Q size distance
   tied-step =
       record {
         taken = ap (λ (i : ℕ). i + 1) (t .taken);
         power = two-of-words (twoWords (m .sums .sq) + size (e .o) x * size (e .o) x) ∙ ap (λ (s : ℕ). s + size (e .o) x * size (e .o) x) (t .power);
-        p = p-near;
-        q = q-near;
+        envelope = near;
         each = λ j l. subst (λ (h : ℕ). Between D (thresholdOf T j) (m .sums .n .0 + 1) (activity (countList (T .count) (countOf T (e .I) Q m)) j) h (takeOne e x)) (sym (hang-at (T .count) (hangOf T (e .I) Q m) j (R .few) l))
             (subst (λ (a : ℕ). Between D (thresholdOf T j) (m .sums .n .0 + 1) a (hangOf T (e .I) Q m j) (takeOne e x)) (sym (count-at (T .count) (countOf T (e .I) Q m) j (R .few) l)) (counter j l));
         falls = λ j l. both-at (T .count) (T .count) (countOf T (e .I) Q m) (hangOf T (e .I) Q m) (countOf T (e .I) Q m) (hangOf T (e .I) Q m) (j + 1) j (R .few) (R .few) l (omega arith)
@@ -240,8 +211,7 @@ tied-fresh T R D code K I o =
     record {
       taken = refl;
       power = two-of-words 0;
-      p = near-zero (2 ^ 20) K 1 ((2 ^ 20) ^ 0) (lit< tt) (power-pos 0) (lit< tt);
-      q = near-zero (2 ^ 20) K 2 ((2 ^ 20) ^ (0 + 1)) (lit< tt) (power-pos 1) (lit< tt);
+      envelope = follows-first code K I o;
       each = λ j l.
           let a0 = zeros-at j (omega (arith, R .few)) in
           let h0 = hang-at (T .count) (λ i. I) j (R .few) l in
@@ -258,20 +228,4 @@ tied-fresh T R D code K I o =
       squares = le-of-eq (two-of-words 0);
       p-max = zero-le;
       q-max = zero-le;
-    }
-
--- ---- the envelope alone
-
-pub envelope-bound : (T : Thresholds) → Rising T → (K I D : ℕ) (o : ℤ) (xs : List ℤ) → 1 ≤ K → K ≤ 2 ^ 20 → Ceiling (2 ^ 21) K D → SFits w16 o → AllSamples xs → EnvelopeBound T K I D o xs
-unfolding startAt
-envelope-bound T R K I D o xs k0 kG d g f =
-    let e = startAt 0 K I o in
-    let t = tied-samples T R D xs (freshState (T .count) I) e k0 kG (d .not-below) g f (tied-fresh T R D 0 K I o) in
-    let Q = envelopeAfter T K I o xs in
-    let qn = exactEnvelopeAfter K I o xs in
-    let near = subst (λ (i : ℕ). Near (2 ^ 20) K 2 ((2 ^ 20) ^ (i + 1)) Q qn) (total xs e ∙ zero-add (length xs))
-    (subst (λ (k : ℕ). Near (2 ^ 20) k 2 ((2 ^ 20) ^ (takeAll e xs .y + 1)) Q qn) (same-K xs e) (t .q)) in
-    record {
-      never-above = near .low;
-      less-than-D = near-below (2 ^ 20) K 2 ((2 ^ 20) ^ (length xs + 1)) Q qn D (d .not-below) near;
     }

@@ -25,7 +25,7 @@ use Rattle.exact.specs.Exact.{E, start, takeAll}
 use Rattle.exact.specs.TwoCards.{Alike, OneLine, raised, meterCount, Compared, TwoCards}
 use Rattle.exact.proofs.Ahead.{ahead, Leads, leads}
 use Rattle.exact.proofs.Calls.{accepted-setting}
-use Rattle.exact.proofs.Demand3.{demand3}
+use Rattle.exact.proofs.Demand3.{taken-alike, demand3}
 use Rattle.exact.proofs.Lost.{exactly-is, measurement, state-is}
 
 -- ---- figures
@@ -33,20 +33,25 @@ use Rattle.exact.proofs.Lost.{exactly-is, measurement, state-is}
 row : (c : Setting) → Opens c → Keeps (rowOf (c .code))
 row c z = row-keeps (c .code) (accepted-setting c z .named)
 
--- c_j of the built-in list is 2^j intervals
-in-intervals : (j : ℕ) → j < builtInCount → thresholdOf builtIn j ≡ 2 ^ j * interval
-in-intervals j l = built-in-is j l ∙ pow-add 2 j 24
-
 -- ---- the counts
 
 -- E after calls is what the samples taken lead to
-exact-is : (c : Setting) (calls : List Call) → Demand3 c calls → exactAfter c calls ≡ takeAll (exactAt c) (takenFrom c calls)
-exact-is c calls D = exactly-is calls (exactAt c) ∙ ap (takeAll (exactAt c)) (sym (D .same-samples))
+exact-is : (c : Setting) (calls : List Call) → TypedOffset c → Opens c → Typed calls → exactAfter c calls ≡ takeAll (exactAt c) (takenFrom c calls)
+exact-is c calls t z f = exactly-is calls (exactAt c) ∙ ap (takeAll (exactAt c)) (sym (taken-alike c calls t z f))
 
 list-of : (c : Setting) → Opens c → Rising (c .thresholds)
 list-of c z = rising _ (loaded _ (accepted-setting c z .list))
 
-module _ (d : ℕ) (c c′ : Setting) (calls calls′ : List Call) (l : OneLine d c c′ calls calls′) (first : Demand3 c calls) (second : Demand3 c′ calls′) where
+module _ (d : ℕ) (c c′ : Setting) (calls calls′ : List Call) (t : TypedOffset c) (f : Typed calls) (f′ : Typed calls′) (l : OneLine d c c′ calls calls′) where
+  t′ : TypedOffset c′
+  t′ = subst (SFits w16) (sym (l .offset)) t
+
+  first : Demand3 c calls
+  first = demand3 c calls t (l .opens) f
+
+  second : Demand3 c′ calls′
+  second = demand3 c′ calls′ t′ (l .opens′) f′
+
   same-D : dOf c′ ≡ dOf c
   unfolding dOf
   same-D = ap (λ (k : ℕ). rowOf k .d) (l .rate)
@@ -54,13 +59,13 @@ module _ (d : ℕ) (c c′ : Setting) (calls calls′ : List Call) (l : OneLine 
   same-start : exactAt c′ ≡ exactAt c
   same-start = ap₂ start (l .rate) (l .offset)
 
-  exact-order : (t t′ : ℕ) → t′ + d * interval ≤ t → countAt (exactAfter c calls) t ≤ countAt (exactAfter c′ calls′) t′
+  exact-order : (r r′ : ℕ) → r′ + d * interval ≤ r → countAt (exactAfter c calls) r ≤ countAt (exactAfter c′ calls′) r′
   unfolding start
-  exact-order t t′ k =
-      subst₂ (λ (e e′ : E). countAt e t ≤ countAt e′ t′)
-      (sym (exact-is c calls first))
-      (sym (exact-is c′ calls′ second ∙ ap (λ (e : E). takeAll e (takenFrom c′ calls′)) same-start))
-      (ahead d (c .code) (rowOf (c .code) .k) (rowOf (c .code) .i) (c .offset) (row c (l .opens) .k-high) (takenFrom c calls) (takenFrom c′ calls′) (l .samples) t t′ k)
+  exact-order r r′ k =
+      subst₂ (λ (e e′ : E). countAt e r ≤ countAt e′ r′)
+      (sym (exact-is c calls t (l .opens) f))
+      (sym (exact-is c′ calls′ t′ (l .opens′) f′ ∙ ap (λ (e : E). takeAll e (takenFrom c′ calls′)) same-start))
+      (ahead d (c .code) (rowOf (c .code) .k) (rowOf (c .code) .i) (c .offset) (row c (l .opens) .k-high) (takenFrom c calls) (takenFrom c′ calls′) (l .samples) r r′ k)
 
   -- and of the meters themselves
   meters : Leads (c .thresholds) (c′ .thresholds) (d * interval) (meterAfter c calls .state) (meterAfter c′ calls′ .state)
@@ -77,18 +82,8 @@ module _ (d : ℕ) (c c′ : Setting) (calls calls′ : List Call) (l : OneLine 
   alone i j k n h = meters .each i j k n h .count
 
   -- the second meter's count against E's for the first
-  from-exact : (t j : ℕ) → j < c′ .thresholds .count → thresholdOf (c′ .thresholds) j + dOf c′ + d * interval ≤ t → countAt (exactAfter c calls) t ≤ meterCount c′ calls′ j
-  from-exact t j k h = le-trans (exact-order t (thresholdOf (c′ .thresholds) j + dOf c′) h) (second .at-least j k)
-
-  -- at the next threshold of the built-in list
-  at-next : c .thresholds ≡ builtIn → c′ .thresholds ≡ builtIn → (j : ℕ) → j + 1 < builtInCount → d ≤ 2 ^ j → meterCount c calls (j + 1) ≤ meterCount c′ calls′ j
-  at-next b b′ j k h =
-      let n = ap (λ (T : Thresholds). T .count) b in
-      let n′ = ap (λ (T : Thresholds). T .count) b′ in
-      let high = ap (λ (T : Thresholds). thresholdOf T (j + 1)) b ∙ in-intervals (j + 1) k in
-      let low = ap (λ (T : Thresholds). thresholdOf T j) b′ ∙ in-intervals j (omega arith) in
-      alone (j + 1) j (omega (arith, k, n, built-in-count)) (omega (arith, k, n′, built-in-count))
-      (omega (arith, high, low, mul-le-mul-right interval h, ap (λ (e : ℕ). 2 ^ e * interval) (add-one j), ap (λ (x : ℕ). x * interval) (two-pow-succ j)))
+  from-exact : (r j : ℕ) → j < c′ .thresholds .count → thresholdOf (c′ .thresholds) j + dOf c′ + d * interval ≤ r → countAt (exactAfter c calls) r ≤ meterCount c′ calls′ j
+  from-exact r j k h = le-trans (exact-order r (thresholdOf (c′ .thresholds) j + dOf c′) h) (second .at-least j k)
 
   -- each clause with its own bound on thresholds to be shown, so that a wrong one is refused for what is false in it
   compared : Compared d c c′ calls calls′
@@ -97,7 +92,6 @@ module _ (d : ℕ) (c c′ : Setting) (calls calls′ : List Call) (l : OneLine 
         never-above = λ j k. from-exact _ j k (omega arith);
         exceeds-at-most = λ i j k n. omega (arith, first .at-most i k, from-exact (raised d c′ j) j n (omega arith));
         meters-alone = λ i j k n h. alone i j k n h;
-        next-threshold = at-next;
       }
 
 -- ---- exchanged
@@ -123,35 +117,24 @@ exchange d c c′ calls calls′ l =
 pub two-cards : (d : ℕ) (c c′ : Setting) (calls calls′ : List Call) → TypedOffset c → Typed calls → Typed calls′ → OneLine d c c′ calls calls′
     → TwoCards d c c′ calls calls′
 two-cards d c c′ calls calls′ t f f′ l =
-    let first = demand3 c calls t (l .opens) f in
-    let second = demand3 c′ calls′ (subst (SFits w16) (sym (l .offset)) t) (l .opens′) f′ in
     record {
-      first = compared d c c′ calls calls′ l first second;
-      exchanged = compared d c′ c calls′ calls (exchange d c c′ calls calls′ l) second first;
+      first = compared d c c′ calls calls′ t f f′ l;
+      exchanged = compared d c′ c calls′ calls (subst (SFits w16) (sym (l .offset)) t) f′ f (exchange d c c′ calls calls′ l);
     }
 
--- ---- each clause used at its ends: at every threshold, both ways, and at the largest d that it allows
+-- ---- what follows from it
 
--- where d is 0 two meters with one list count the same
-pub no-noise : {c c′ : Setting} {calls calls′ : List Call} → TwoCards 0 c c′ calls calls′ → c′ .thresholds ≡ c .thresholds → (j : ℕ) → j < c .thresholds .count
-    → meterCount c calls j ≡ meterCount c′ calls′ j
-no-noise {c} {c′} t e j k =
-    let at = ap (λ (T : Thresholds). thresholdOf T j) e in
-    let k′ : j < c′ .thresholds .count = omega (arith, ap (λ (T : Thresholds). T .count) e) in
-    omega (arith, t .first .meters-alone j j k k′ (omega (arith, at)), t .exchanged .meters-alone j j k′ k (omega (arith, at)))
+-- c_j of the built-in list is 2^j intervals
+in-intervals : (j : ℕ) → j < builtInCount → thresholdOf builtIn j ≡ 2 ^ j * interval
+in-intervals j l = built-in-is j l ∙ pow-add 2 j 24
 
--- and a card against itself has demand 3's clause `at-least`
-pub against-itself : {c : Setting} {calls : List Call} → TwoCards 0 c c calls calls → (j : ℕ) → j < c .thresholds .count
-    → countAt (exactAfter c calls) (thresholdOf (c .thresholds) j + dOf c) ≤ meterCount c calls j
-against-itself {c} {calls} t j k = subst (λ (n : ℕ). countAt (exactAfter c calls) n ≤ meterCount c calls j) (omega arith) (t .first .never-above j k)
-
--- where E counts as much for the first card at the second's threshold raised as at one of the first's, the first meter's count there is not above the
--- second's
-pub no-excess : {d : ℕ} {c c′ : Setting} {calls calls′ : List Call} → TwoCards d c c′ calls calls′ → (i j : ℕ) → i < c .thresholds .count → j < c′ .thresholds .count
-    → countAt (exactAfter c calls) (thresholdOf (c .thresholds) i) ≡ countAt (exactAfter c calls) (raised d c′ j) → meterCount c calls i ≤ meterCount c′ calls′ j
-no-excess t i j k l e = omega (arith, t .first .exceeds-at-most i j k l, e)
-
--- where d is 2^j itself the first's count at the next threshold of the built-in list is not above the second's at c_j
-pub at-most-next : {c c′ : Setting} {calls calls′ : List Call} (j : ℕ) → TwoCards (2 ^ j) c c′ calls calls′ → c .thresholds ≡ builtIn → c′ .thresholds ≡ builtIn → j + 1 < builtInCount
-    → meterCount c calls (j + 1) ≤ meterCount c′ calls′ j
-at-most-next j t b b′ k = t .first .next-threshold b b′ j k (omega arith)
+-- so with that list in both, and d at most 2^j, the first's count at the next threshold is not above the second's at c_j
+pub next-threshold : {d : ℕ} {c c′ : Setting} {calls calls′ : List Call} → TwoCards d c c′ calls calls′ → c .thresholds ≡ builtIn → c′ .thresholds ≡ builtIn → (j : ℕ) → j + 1 < builtInCount
+    → d ≤ 2 ^ j → meterCount c calls (j + 1) ≤ meterCount c′ calls′ j
+next-threshold t b b′ j k h =
+    let n = ap (λ (T : Thresholds). T .count) b in
+    let n′ = ap (λ (T : Thresholds). T .count) b′ in
+    let high = ap (λ (T : Thresholds). thresholdOf T (j + 1)) b ∙ in-intervals (j + 1) k in
+    let low = ap (λ (T : Thresholds). thresholdOf T j) b′ ∙ in-intervals j (omega arith) in
+    t .first .meters-alone (j + 1) j (omega (arith, k, n, built-in-count)) (omega (arith, k, n′, built-in-count))
+    (omega (arith, high, low, mul-le-mul-right interval h, ap (λ (e : ℕ). 2 ^ e * interval) (add-one j), ap (λ (x : ℕ). x * interval) (two-pow-succ j)))

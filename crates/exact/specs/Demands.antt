@@ -26,7 +26,7 @@ use Rattle.block.specs.Written.{writeRules, writeCall}
 use Rattle.sample.specs.Sample.{freshState, stateAfter}
 use Rattle.meter.specs.declared.Meter.{Meter}
 use Rattle.meter.specs.declared.Report.{Report}
-use Rattle.meter.specs.Answered.{CrossingAt, Used, AllZero, Active, Answered}
+use Rattle.meter.specs.Answered.{CrossingAt, AllZero, Active, Answered}
 use Rattle.meter.specs.Calls.{HandedReport, countingOf, afterSamples, openCall, chunkCall, blockCall, reportCall}
 use Rattle.meter.specs.Opened.{Fresh, Zeros}
 use Rattle.meter.specs.Refusals.{impossible, openRules, chunkRules, blockCallRules}
@@ -35,6 +35,7 @@ use Rattle.exact.specs.Calls.{Call, Typed}
 use Rattle.exact.specs.Exact.{E, start, exactly, answersOfE, took}
 use Rattle.exact.specs.Lists.{after, answers, taken}
 use Rattle.exact.specs.NoOffset.{NoOffset}
+use Rattle.exact.specs.Worked.{AtFirst, Worked}
 
 -- ---- lists of calls, from the opening on
 
@@ -123,11 +124,6 @@ pub record Demand1 : Type 0 where
 
 -- ---- demand 2: "Nothing reported may differ from method B"
 
--- the lowest crossing of a meter, which no report uses: there is none at a lower place. It serves the two clauses about refusals 15 and 16
-pub record LowestCrossing (m : Meter) (j : ℕ) : Type 0 where
-  pub crossing : CrossingAt m j
-  pub none-lower : (i : ℕ) → i < j → CrossingAt m i → ⊥
-
 -- two settings, the same calls accepted, and the same measurement after them
 pub record SameMeasurement (c c′ : Setting) (calls : List Call) : Type 0 where
   pub answers : answersTo c′ calls ≡ answersTo c calls
@@ -167,10 +163,9 @@ pub record Demand2 : Type 0 where
   -- crossing is used", by the meter's own margin, which the report carries with its mark; F is never above 0
   pub reported : (m : Meter) → impossible m ≡ false → Answered m (reportCall m .number) (reportCall m .report)
   pub factor : (m : Meter) → reportCall m .number ≡ 0 → ltZ (pos 0) (reportCall m .report .levels .factor .0) ≡ false
-  -- and, as L4 goes on, "Refusals 15 and 16 are unaffected, since they depend on there being none": there is a highest crossing exactly where there is a
-  -- lowest; and a report on any meter that 2 lets pass, with n, sq and a_0 above 0, has levels and not one of the two exactly where there is a lowest
-  pub highest-lowest : (m : Meter) → ((j : ℕ) × Used m j) ↔ ((j : ℕ) × LowestCrossing m j)
-  pub unaffected : (m : Meter) → impossible m ≡ false → Active m → (reportCall m .number ≡ 0) ↔ ((j : ℕ) × LowestCrossing m j)
+  -- and, as L4 goes on, "Refusals 15 and 16 are unaffected, since they depend on there being none": a report on any meter that 2 lets pass, with n, sq and
+  -- a_0 above 0, has levels and not one of the two exactly where there is a crossing at all
+  pub unaffected : (m : Meter) → impossible m ≡ false → Active m → (reportCall m .number ≡ 0) ↔ ((j : ℕ) × CrossingAt m j)
   -- and, as his request L1 has it, "A larger F must never show a smaller percentage": of any two reports with levels
   pub percent-never-falls : (m m′ : Meter) → reportCall m .number ≡ 0 → reportCall m′ .number ≡ 0
       → leZ (reportCall m .report .levels .factor .0) (reportCall m′ .report .levels .factor .0) ≡ true
@@ -208,10 +203,16 @@ pub record EmptyAt (m : Meter) (j : ℕ) : Type 0 where
 
 -- after a list of calls from a setting that opening accepts, with whatever offset, margin and thresholds
 pub record Demand3 (c : Setting) (calls : List Call) : Type 0 where
-  -- "The meter accepts exactly the calls that E accepts", and so takes the samples that E takes; E adds up the squares of x − o over them
+  -- "Let E be the plain machine that document 01 writes out: P.56's envelope and counts, worked from the calls alone, without rounding, at the rate's stated
+  -- coefficient": so it begins, and so the samples of the calls that it accepts, one by one, lead to what it is after them
+  pub at-first : AtFirst c (exactAt c)
+  pub worked : Worked (exactAt c) (took (exactAt c) calls) (exactAfter c calls)
+  -- "The meter accepts exactly the calls that E accepts", and so takes as many samples; E adds up the squares of x − o over those that it took, as the
+  -- meter does
   pub same-calls : answersTo c calls ≡ answersOfE (exactAt c) calls
-  pub same-samples : takenFrom c calls ≡ took (exactAt c) calls
+  pub same-total : exactAfter c calls .y ≡ meterAfter c calls .state .sums .n .0
   pub exact-squares : exactAfter c calls .sq ≡ sumOfSquares (c .offset) (took (exactAt c) calls)
+  pub same-squares : exactAfter c calls .sq ≡ twoWords (meterAfter c calls .state .sums .sq)
   -- "Each activity count is at most E's count at that threshold, and at least E's count at the threshold raised by document 01's D"
   pub at-most : (j : ℕ) → j < c .thresholds .count → activity (meterAfter c calls .state .a) j ≤ countAt (exactAfter c calls) (thresholdOf (c .thresholds) j)
   pub at-least : (j : ℕ) → j < c .thresholds .count → countAt (exactAfter c calls) (thresholdOf (c .thresholds) j + dOf c) ≤ activity (meterAfter c calls .state .a) j

@@ -7,3 +7,4 @@ pub mod Fractions
 pub mod Lists
 pub mod NoOffset
 pub mod TwoCards
+pub mod Worked

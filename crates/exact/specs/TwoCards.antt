@@ -2,11 +2,11 @@
 -- quotes are his words. `Claim` says that `OneLine` leads to `TwoCards`.
 use mathlib.Core.List.{List}
 use mathlib.Core.Path.{_≡_}
-use Prim.Native.Nat.{ℕ, _+_, _*_, _^_, _≤_, _<_}
+use Prim.Native.Nat.{ℕ, _+_, _*_, _≤_, _<_}
 use lib.IntN.{ℤ, pos}
 use lib.ListN.{getD, length}
 use Rattle.level.specs.Types.{activity}
-use Rattle.thresholds.specs.Lists.{builtIn, builtInCount, thresholdOf}
+use Rattle.thresholds.specs.Lists.{thresholdOf}
 use Rattle.setting.specs.declared.Setting.{Setting}
 use Rattle.setting.specs.Settings.{dOf}
 use Rattle.sample.specs.Envelope.{interval}
@@ -59,8 +59,6 @@ pub record Compared (d : ℕ) (c c′ : Setting) (calls calls′ : List Call) : 
   -- And from the two meters alone, without E: where c_i is at least d intervals above c′_j, the first's count at c_i is never above the second's at c′_j
   pub meters-alone : (i j : ℕ) → i < c .thresholds .count → j < c′ .thresholds .count → thresholdOf (c′ .thresholds) j + d * interval ≤ thresholdOf (c .thresholds) i
       → meterCount c calls i ≤ meterCount c′ calls′ j
-  -- so with the built-in list in both, whose c_j is 2^j intervals, at the next threshold, where 2^j is not below d
-  pub next-threshold : c .thresholds ≡ builtIn → c′ .thresholds ≡ builtIn → (j : ℕ) → j + 1 < builtInCount → d ≤ 2 ^ j → meterCount c calls (j + 1) ≤ meterCount c′ calls′ j
 
 -- "and the same with the cards exchanged"
 pub record TwoCards (d : ℕ) (c c′ : Setting) (calls calls′ : List Call) : Type 0 where

@@ -10,7 +10,8 @@ use lib.Dec.{eqb}
 use lib.IntN.{ℤ, pos}
 use lib.ListN.{length}
 use Rattle.level.specs.Logarithm.{levelOf}
-use Rattle.rate.specs.Rates.{rowOf}
+use Rattle.rate.specs.declared.Rate.{Rate}
+use Rattle.rate.specs.Rates.{rateOf, rowOf}
 use Rattle.block.specs.Refusals.{hostCheck}
 use Rattle.block.specs.Written.{writeCall}
 use Rattle.percent.specs.Percent.{whole, notAbove, percentOf}
@@ -26,7 +27,7 @@ use Rattle.exact.specs.Envelope.{envelopeAfter, exactEnvelopeAfter}
 use Rattle.exact.specs.Exact.{distance}
 use Rattle.exact.specs.TwoCards.{DifferAtMost, sizeAt, Alike, OneLine, raised, meterCount}
 use Rattle.figures.specs.Meters.{padded, countsOf}
-use Rattle.figures.specs.Rows.{Shown, nothing, Values, Row, level, noLevel, percent, sampled, reported, refused, opened, handedIn, answered, checked, made, played, counted, needsTwo, cards, needsD, sampledMeter, meterFrom, exactFrom, numbersOf, shownBy, valuesOf, inPlaces, Holds, All}
+use Rattle.figures.specs.Rows.{Carried, noMeasurement, Shown, nothing, Values, Row, rate, level, noLevel, percent, sampled, reported, refused, opened, handedIn, answered, checked, made, played, counted, needsTwo, cards, needsD, sampledMeter, meterFrom, exactFrom, numbersOf, carriedBy, measurementOf, shownBy, valuesOf, inPlaces, Holds, All}
 use Rattle.figures.proofs.Tests.{Test, via, _and_, always, never, is, isNot, unless, atMost, itself, _on_, Equality, sameNumber, sameInteger, sameAnswer, sameList, sameOption}
 
 -- the percentage of a factor, by its law: two logarithms beside lev(10000)
@@ -37,7 +38,31 @@ percentage F T =
     and unless (eqb T 0) (is (notAbove F T))
     and unless (eqb T whole) (isNot (notAbove F (T + 1))))
 
--- what a report on a meter shows, and values, by their fields
+-- what a report on a meter carries and shows, a rate, and values, by their fields
+abbrev carried : (n : ℕ) (s : ℤ) (high low : ℕ) (a : List ℕ) → Carried
+carried n s high low a = record { n = n; s = s; high = high; low = low; a = a }
+
+abbrev pub sameCarried : Equality Carried
+sameCarried x y =
+    itself carried
+    on sameNumber (x .n) (y .n)
+    on sameInteger (x .s) (y .s)
+    on sameNumber (x .high) (y .high)
+    on sameNumber (x .low) (y .low)
+    on sameList sameNumber (x .a) (y .a)
+
+abbrev rateWith : (code hertz K I D : ℕ) → Rate
+rateWith code hertz K I D = record { code = code; hertz = hertz; k = K; i = I; d = D }
+
+abbrev pub sameRate : Equality Rate
+sameRate x y =
+    itself rateWith
+    on sameNumber (x .code) (y .code)
+    on sameNumber (x .hertz) (y .hertz)
+    on sameNumber (x .k) (y .k)
+    on sameNumber (x .i) (y .i)
+    on sameNumber (x .d) (y .d)
+
 abbrev shown : (L A C F : ℤ) (lower upper T : ℕ) (M : ℤ) (mark : Bool) → Shown
 shown L A C F lower upper T M mark = record { L = L; A = A; C = C; F = F; lower = lower; upper = upper; T = T; M = M; mark = mark }
 
@@ -109,6 +134,7 @@ oneLine d c c′ calls calls′ =
 -- the test of what a row says
 unfoldable pub testOf : (r : Row) → Test (Holds r)
 unfolding Holds
+testOf (rate code hertz K I D) = sameOption sameRate (rateOf code) (some (rateWith code hertz K I D))
 testOf (level N v) = sameOption sameInteger (levelOf N) (some (pos v))
 testOf (noLevel N) = sameOption sameInteger (levelOf N) none
 testOf (percent F T) = percentage F T
@@ -119,9 +145,16 @@ testOf (sampled c xs P Q a number) =
     and sameNumber (m .state .sums .q) Q
     and sameList sameNumber (countsOf m) (padded a)
     and sameNumber (reportCall m .number) number)
-testOf (reported m r) = sameNumber (reportCall m .number) 0 and sameShown m r (reportedPercentage m (r .T))
+testOf (reported m r) =
+    via (λ h. (h .0, h .1 .0, h .1 .1))
+    (sameNumber (reportCall m .number) 0
+    and sameCarried (carriedBy (reportCall m .report)) (measurementOf m)
+    and sameShown m r (reportedPercentage m (r .T)))
 testOf (refused m number) =
-    sameNumber (reportCall m .number) number and sameShown m nothing (sameNumber (reportCall m .report .percent .0) (nothing .T))
+    via (λ h. (h .0, h .1 .0, h .1 .1))
+    (sameNumber (reportCall m .number) number
+    and sameCarried (carriedBy (reportCall m .report)) noMeasurement
+    and sameShown m nothing (sameNumber (reportCall m .report .percent .0) (nothing .T)))
 testOf (opened c number) = sameNumber (openCall c .number) number
 testOf (handedIn m number) = sameNumber (chunkCall m [] .number) number
 testOf (answered m calls numbers) = sameList sameNumber (numbersOf m calls) numbers
@@ -145,8 +178,8 @@ testOf (cards d c c′ calls calls′ j t u a) =
 testOf (needsD c xs Q) =
     let r = rowOf (c .code) in
     let o = c .offset in
-    sameNumber (envelopeAfter (c .thresholds) (r .k) (r .i) o xs) Q
-    and atMost ((Q + (r .d - 1)) * (2 ^ 20) ^ (length xs + 1)) (exactEnvelopeAfter (r .k) (r .i) o xs)
+    let q = exactEnvelopeAfter (r .k) (r .i) o xs in
+    sameNumber (envelopeAfter (c .thresholds) (r .k) (r .i) o xs) Q and atMost ((Q + (r .d - 1)) * q .under) (q .over)
 
 unfoldable pub test : Row → Bool
 test r = testOf r .passes

@@ -97,6 +97,9 @@ withA x m = withState (record { sums = m .state .sums; a = map samplesOf (padded
 abbrev pub withH : List ℕ → Meter → Meter
 withH x m = withState (record { sums = m .state .sums; a = m .state .a; h = padded x }) m
 
--- the activity counts of a meter, as numbers
+-- activity counts as numbers, and those of a meter
+abbrev pub numbers : List Samples → List ℕ
+numbers a = map (λ (n : Samples). n .0) a
+
 abbrev pub countsOf : Meter → List ℕ
-countsOf m = map (λ (n : Samples). n .0) (m .state .a)
+countsOf m = numbers (m .state .a)

@@ -5,9 +5,8 @@ use mathlib.Core.Option.{none, some}
 use mathlib.Core.Path.{_≡_}
 use Prim.Native.Nat.{ℕ, _+_, _-_, _*_, _^_, _≤_}
 use lib.IntN.{ℤ, pos}
-use lib.ListN.{length}
 use Rattle.level.specs.Logarithm.{levelOf}
-use Rattle.rate.specs.Rates.{rowOf}
+use Rattle.rate.specs.Rates.{rateOf, rowOf}
 use Rattle.block.specs.Refusals.{hostCheck}
 use Rattle.block.specs.Written.{writeCall}
 use Rattle.percent.specs.Percent.{percentOf}
@@ -20,11 +19,20 @@ use Rattle.exact.specs.Calls.{Call}
 use Rattle.exact.specs.Demands.{meterAfter, exactAfter, countAt}
 use Rattle.exact.specs.Envelope.{envelopeAfter, exactEnvelopeAfter}
 use Rattle.exact.specs.Exact.{E}
+use Rattle.exact.specs.Fractions.{AtLeast}
 use Rattle.exact.specs.Lists.{called}
 use Rattle.exact.specs.TwoCards.{OneLine, raised, meterCount}
-use Rattle.figures.specs.Meters.{padded, countsOf}
+use Rattle.figures.specs.Meters.{padded, numbers, countsOf}
 
--- the levels of a report, its thresholds, its percentage, and the margin with its mark
+-- what a report carries of the measurement
+pub record Carried : Type 0 where
+  pub n : ℕ
+  pub s : ℤ
+  pub high : ℕ
+  pub low : ℕ
+  pub a : List ℕ
+
+-- and what it makes of it: the levels, their thresholds, the percentage, and the margin with its mark
 pub record Shown : Type 0 where
   pub L : ℤ
   pub A : ℤ
@@ -36,7 +44,10 @@ pub record Shown : Type 0 where
   pub M : ℤ
   pub mark : Bool
 
--- what a refused report shows
+-- what a refused report carries, and what it shows
+abbrev pub noMeasurement : Carried
+noMeasurement = record { n = 0; s = pos 0; high = 0; low = 0; a = padded [] }
+
 abbrev pub nothing : Shown
 nothing = record { L = pos 0; A = pos 0; C = pos 0; F = pos 0; lower = 0; upper = 0; T = 0; M = pos 0; mark = false }
 
@@ -57,6 +68,8 @@ pub record Values : Type 0 where
   pub h : List ℕ
 
 pub data Row : Type 0 where
+  -- a code names the rate with these figures
+  rate : (code hertz K I D : ℕ) → Row
   -- lev(N) is v
   level : (N v : ℕ) → Row
   -- N has no level
@@ -65,9 +78,9 @@ pub data Row : Type 0 where
   percent : (F : ℤ) (T : ℕ) → Row
   -- a fresh meter after samples has P, Q and activity counts a, with zeros in the places past them, and its report is answered with number
   sampled : Setting → (xs : List ℤ) (P Q : ℕ) (a : List ℕ) (number : ℕ) → Row
-  -- a meter handed in gets a report that shows this
+  -- a meter handed in gets a report that carries its own measurement and shows this
   reported : Meter → Shown → Row
-  -- a meter handed in is refused a report with number, and what the report shows is all zero
+  -- a meter handed in is refused a report with number, and what the report carries and shows is all zero
   refused : Meter → (number : ℕ) → Row
   -- opening is answered with number
   opened : Setting → (number : ℕ) → Row
@@ -105,6 +118,14 @@ exactFrom c calls = exactAfter c calls
 unfoldable pub numbersOf : Meter → List Call → List ℕ
 numbersOf m [] = []
 numbersOf m (call ∷ calls) = let got = called m call in got .number ∷ numbersOf (got .meter) calls
+
+unfoldable pub carriedBy : Report → Carried
+carriedBy r = record { n = r .n .0; s = r .s; high = r .sq .high; low = r .sq .low; a = numbers (r .a) }
+
+unfoldable pub measurementOf : Meter → Carried
+measurementOf m =
+    let sums = m .state .sums in
+    record { n = sums .n .0; s = sums .s; high = sums .sq .high; low = sums .sq .low; a = countsOf m }
 
 unfoldable pub shownBy : Report → Shown
 shownBy r =
@@ -158,14 +179,19 @@ inPlaces v =
     }
 
 unfoldable pub Holds : Row → Type 0
+Holds (rate code hertz K I D) = rateOf code ≡ some (record { code = code; hertz = hertz; k = K; i = I; d = D })
 Holds (level N v) = levelOf N ≡ some (pos v)
 Holds (noLevel N) = levelOf N ≡ none
 Holds (percent F T) = percentOf F ≡ T
 Holds (sampled c xs P Q a number) =
     let m = sampledMeter c xs in
     (m .state .sums .p ≡ P) × (m .state .sums .q ≡ Q) × (countsOf m ≡ padded a) × (reportCall m .number ≡ number)
-Holds (reported m r) = (reportCall m .number ≡ 0) × (shownBy (reportCall m .report) ≡ r)
-Holds (refused m number) = (reportCall m .number ≡ number) × (shownBy (reportCall m .report) ≡ nothing)
+Holds (reported m r) =
+    let got = reportCall m in
+    (got .number ≡ 0) × (carriedBy (got .report) ≡ measurementOf m) × (shownBy (got .report) ≡ r)
+Holds (refused m number) =
+    let got = reportCall m in
+    (got .number ≡ number) × (carriedBy (got .report) ≡ noMeasurement) × (shownBy (got .report) ≡ nothing)
 Holds (opened c number) = openCall c .number ≡ number
 Holds (handedIn m number) = chunkCall m [] .number ≡ number
 Holds (answered m calls numbers) = numbersOf m calls ≡ numbers
@@ -184,7 +210,7 @@ Holds (cards d c c′ calls calls′ j t u a) =
 Holds (needsD c xs Q) =
     let r = rowOf (c .code) in
     let o = c .offset in
-    (envelopeAfter (c .thresholds) (r .k) (r .i) o xs ≡ Q) × ((Q + (r .d - 1)) * (2 ^ 20) ^ (length xs + 1) ≤ exactEnvelopeAfter (r .k) (r .i) o xs)
+    (envelopeAfter (c .thresholds) (r .k) (r .i) o xs ≡ Q) × AtLeast (exactEnvelopeAfter (r .k) (r .i) o xs) (Q + (r .d - 1))
 
 -- every row of a table holds
 unfoldable pub All : List Row → Type 0

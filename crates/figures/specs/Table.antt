@@ -14,7 +14,7 @@ use Rattle.meter.specs.Calls.{openCall}
 use Rattle.exact.specs.Calls.{Call, chunk, block}
 use Rattle.figures.specs.Blocks.{samplesOfThree, soundBlock, fullBlock, endBlock, twenty, lastBlock, lastFull, exampleBytes, plainBytes, lent, threeBytes, otherSum, highSum, otherWeighted, otherKind, otherCode, noCount, highCount, usedNext, usedLast}
 use Rattle.figures.specs.Meters.{placed, offsetBy, marginBy, placedBy, listBy, freshAt, given, plain, withCode, withOffset, withMargin, withThresholds, withList, withN, withS, withSq, withP, withQ, withA, withH}
-use Rattle.figures.specs.Rows.{Values, Row, level, noLevel, percent, sampled, reported, refused, opened, handedIn, answered, checked, made, played, counted, needsTwo, cards, needsD, sampledMeter}
+use Rattle.figures.specs.Rows.{Values, Row, rate, level, noLevel, percent, sampled, reported, refused, opened, handedIn, answered, checked, made, played, counted, needsTwo, cards, needsD, sampledMeter}
 
 -- x at the first k places
 abbrev first : (k x : ℕ) → List ℕ
@@ -171,7 +171,10 @@ faults =
 
 unfoldable pub table : List Row
 table =
-    level 1 0
+    rate 1 694 49174 139 43
+    ∷ rate 2 8000 4360 1600 481
+    ∷ rate 3 16000 2182 3200 962
+    ∷ level 1 0
     ∷ level 2 4096
     ∷ level 3 6492
     ∷ level 5 9510
@@ -226,6 +229,8 @@ table =
     -- those of the customer's rows that he has run, not proved
     ∷ answered (withN (2 ^ 48) plain) (chunk (pos 1 ∷ []) ∷ chunk [] ∷ []) (11 ∷ 0 ∷ [])
     ∷ answered (freshAt 2) (chunk (replicate 4097 (pos 0)) ∷ chunk (replicate 4096 (pos 0)) ∷ []) (3 ∷ 0 ∷ [])
+    -- lev keeps 31 places of what it squares, where 30 would do for those above
+    ∷ level 4407622486 131225
     -- the ends of lev's range, and past them
     ∷ level (2 ^ 80) 327680
     ∷ noLevel 0
@@ -255,12 +260,14 @@ table =
     ∷ reported (given 16384 (2 ^ 44) (first 15 4096)) (record { L = pos 122880; A = pos 131072; C = pos 109437; F = minus 8192; lower = 13; upper = 14; T = 2500; M = pos 21635; mark = false })
     -- the largest sq that a report can meet
     ∷ reported (given (2 ^ 48) (2 ^ 80) (first 15 (2 ^ 48))) (record { L = pos 131072; A = pos 131072; C = pos 109437; F = pos 0; lower = 13; upper = 14; T = 10000; M = pos 21635; mark = false })
+    -- a report carries its meter's n and s, both words of sq, and every count
+    ∷ reported (withS (minus 123456789) (given (2 ^ 33) (2 ^ 64 + 5) (listFrom (λ j. 2 ^ 33 - j) 0 13 ++ ((2 ^ 32 + 1) ∷ (2 ^ 31 + 1) ∷ [])))) (record { L = pos 126976; A = pos 134013; C = pos 112378; F = minus 7037; lower = 13; upper = 14; T = 3039; M = pos 21635; mark = false })
     -- the other refusals of a report
     ∷ refused (given 1 (2 ^ 32 + 1) []) 2
     ∷ refused (given 0 0 []) 12
     ∷ refused (given 1 0 []) 13
     ∷ refused (given (2 ^ 40) (2 ^ 64) []) 14
-    ∷ refused (given 16384 (2 ^ 40) (first 8 4096)) 16
+    ∷ refused (withS (minus 9) (given 16384 (2 ^ 40) (first 8 4096))) 16
     -- opening
     ∷ opened (usualSetting 0) 1
     ∷ opened (usualSetting 1) 0
@@ -419,11 +426,13 @@ table =
     ∷ handedIn (withA (first 15 1000) plain) 0
     ∷ handedIn (withA (first 1 1001) plain) 2
     ∷ handedIn (withA (first 8 1001) plain) 2
-    -- a_j rising with j: at the first pair, and at the last
+    -- a_j rising with j: at the first pair, in the middle, and at the last
     ∷ handedIn (withA (5 ∷ replicate 14 6) plain) 2
+    ∷ handedIn (withA (replicate 7 5 ++ replicate 8 6) plain) 2
     ∷ handedIn (withA (replicate 14 5 ++ (6 ∷ [])) plain) 2
-    -- h_j falling with j: at the first pair, and at the last
+    -- h_j falling with j: at the first pair, in the middle, and at the last
     ∷ handedIn (withH (6 ∷ replicate 14 5) plain) 2
+    ∷ handedIn (withH (replicate 7 6 ++ replicate 8 5) plain) 2
     ∷ handedIn (withH (replicate 14 6 ++ (5 ∷ [])) plain) 2
     -- past the end of the list: an a_j or an h_j that is not zero, the first such place and the last; within it neighbours are compared to its end
     ∷ handedIn (withA (replicate 15 5 ++ (1 ∷ [])) plain) 2

@@ -3,7 +3,6 @@
 use mathlib.Core.Bool.{true, false, cond}
 use mathlib.Core.List.{List, []}
 use mathlib.Core.Logic.{_⊎_, inl, inr, _↔_}
-use mathlib.Core.Option.{some}
 use mathlib.Core.Path.{_≡_, refl, sym, ap, ap₂, _∙_, subst}
 use Prim.Native.Nat.{ℕ, _+_, _-_, _≤_, _<_}
 use native.Mathlib.Omega.{arith}
@@ -11,8 +10,7 @@ use borrow.Author.Tests.{ne-eqb, le-ltb}
 use lib.Dec.{eqb, ltb, lit≤}
 use lib.IntN.{ℤ, pos, _-ℤ_}
 use lib.Signed.{ltZ, leZ}
-use Rattle.level.specs.Logarithm.{lev, levelOf}
-use Rattle.level.specs.Types.{mostSamples, activity, twoWords, words}
+use Rattle.level.specs.Types.{mostSamples, twoWords, words}
 use Rattle.level.proofs.Laws.{level-exists}
 use Rattle.rate.proofs.Laws.{zero-unnamed}
 use Rattle.refusal.specs.First.{firstOf, NoneApplies, rising, Given, Lowest}
@@ -21,15 +19,16 @@ use Rattle.block.specs.Block.{samplesIn}
 use Rattle.block.specs.Refusals.{blockRules}
 use Rattle.sample.specs.Sample.{listFrom, freshState, stateAfter}
 use Rattle.thresholds.specs.Lists.{places, noList, listRules}
+use Rattle.thresholds.proofs.Laws.{loaded, within}
 use Rattle.thresholds.proofs.Places.{filled-with}
-use Rattle.crossing.proofs.Bounds.{Crossed, crossed, factor}
+use Rattle.crossing.proofs.Bounds.{Around, long-term, Crossed, crossed, factor}
 use Rattle.percent.specs.Percent.{IsPercent}
 use Rattle.percent.proofs.Laws.{never-smaller}
 use Rattle.setting.specs.declared.Setting.{Setting}
 use Rattle.possible.specs.Impossible.{anyOf}
 use Rattle.meter.specs.declared.Meter.{Meter}
 use Rattle.meter.specs.declared.Report.{Report}
-use Rattle.meter.specs.Answered.{powerOf, CrossingAt, Used, ReportAt, AllZero, Active, Answered, no-samples, no-signal, no-activity, level-below, level-above, levels}
+use Rattle.meter.specs.Answered.{powerOf, CrossingAt, Used, ReportAt, AllZero, Active, Answered, no-samples, no-signal, no-activity, level-below, level-above, levels, LevelsExist}
 use Rattle.meter.specs.Calls.{fresh, zeroMeter, afterSamples, openCall, chunkCall, blockCall, reportCall}
 use Rattle.meter.specs.Opened.{Fresh, Zeros}
 use Rattle.meter.specs.Refusals.{unnamedCode, impossible, longChunk, tooMany, openRules, chunkRules, blockCallRules}
@@ -174,33 +173,17 @@ crossed-levels (level-below r z a none d) s j c = absurd (none j c)
 crossed-levels (level-above r z a none d) s j c = absurd (none j c)
 crossed-levels (levels r i n q u a) s j c = refl
 
--- 0, 15 and 16 are given only where something was measured
-some-measured : {m : Meter} {k : ℕ} {r : Report} → Answered m k r → (k ≡ 0) ⊎ (15 ≤ k) → (0 < m .state .sums .n .0) × (0 < twoWords (m .state .sums .sq))
-some-measured (no-samples r z n) (inl e) = absurd (omega arith)
-some-measured (no-samples r z n) (inr e) = absurd (omega arith)
-some-measured (no-signal r z n s) (inl e) = absurd (omega arith)
-some-measured (no-signal r z n s) (inr e) = absurd (omega arith)
-some-measured (no-activity r z n s a) (inl e) = absurd (omega arith)
-some-measured (no-activity r z n s a) (inr e) = absurd (omega arith)
-some-measured (level-below r z a n d) e = (a .n, a .sq)
-some-measured (level-above r z a n d) e = (a .n, a .sq)
-some-measured (levels r j n s u a) e = (n, s)
-
--- the numbers whose levels a report takes, sq, n and each a_j above 0, all have one
-pub record LevelsExist (m : Meter) : Type 0 where
-  pub of-sq : levelOf (twoWords (m .state .sums .sq)) ≡ some (pos (lev (twoWords (m .state .sums .sq))))
-  pub of-n : levelOf (m .state .sums .n .0) ≡ some (pos (lev (m .state .sums .n .0)))
-  pub of-a : (j : ℕ) → j < listOf m .count → 0 < activity (m .state .a) j → levelOf (activity (m .state .a) j) ≡ some (pos (lev (activity (m .state .a) j)))
-
--- so a report with levels, and one refused with 15 or 16, never meets "no level"
-pub levels-exist : (m : Meter) → impossible m ≡ false → (reportCall m .number ≡ 0) ⊎ (15 ≤ reportCall m .number) → LevelsExist m
-levels-exist m ok e =
+-- what a report takes the level of has one
+pub levels-exist : (m : Meter) → impossible m ≡ false → LevelsExist m
+levels-exist m ok =
     let p = possible m ok in
-    let w = some-measured (answered m ok) e in
+    let c = within (listOf m) (loaded (listOf m) (p .list)) in
     record {
-      of-sq = level-exists _ (w .1) (omega (arith, p .sq-max, p .n-max));
-      of-n = level-exists _ (w .0) (omega (arith, p .n-max));
+      of-n = λ h. level-exists _ h (omega (arith, p .n-max));
+      of-sq = λ h. level-exists _ h (omega (arith, p .sq-max, p .n-max));
       of-a = λ j l h. level-exists _ h (omega (arith, p .a-max j l, p .n-max));
+      of-c = λ j l. level-exists _ (omega (arith, c j l .0)) (omega (arith, c j l .1));
+      of-T = λ T h k. level-exists T h (omega arith);
     }
 
 -- what is known of a crossing of a possible meter
@@ -223,6 +206,15 @@ pub percent-never-smaller : (m m′ : Meter) → reportCall m .number ≡ 0 → 
     → leZ (reportCall m .report .levels .factor .0) (reportCall m′ .report .levels .factor .0) ≡ true
     → reportCall m .report .percent .0 ≤ reportCall m′ .report .percent .0
 percent-never-smaller m m′ z z′ l = never-smaller _ _ l (percent-of m z) (percent-of m′ z′)
+
+-- L is less than two steps from the exact level of all the time, 4096·log2(sq/n), either way
+pub long-term-near : (m : Meter) → reportCall m .number ≡ 0 → Around (reportCall m .report .levels .level .0) (twoWords (m .state .sums .sq)) (m .state .sums .n .0) (m .state .sums .n .0)
+long-term-near m z =
+    let ok = reportable m z in
+    let p = possible m ok in
+    let L = with-levels (answered m ok) z in
+    subst (λ (l : ℤ). Around l (twoWords (m .state .sums .sq)) (m .state .sums .n .0) (m .state .sums .n .0)) (sym (L .report .L))
+    (long-term _ _ (L .sq-pos) (omega (arith, p .sq-max, p .n-max)) (L .n-pos) (omega (arith, p .n-max)))
 
 -- F is never above 0
 pub factor-never-above : (m : Meter) → reportCall m .number ≡ 0 → ltZ (pos 0) (reportCall m .report .levels .factor .0) ≡ false

@@ -5,3 +5,4 @@ pub mod Laws
 pub mod Range
 pub mod Possible
 pub mod Outcome
+pub mod Only

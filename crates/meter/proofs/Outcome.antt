@@ -102,7 +102,7 @@ module _ (m : Meter) (t : Tested m) where
   unfolding levelAbove
   above-is o e = ap (λ (o : Option ℕ). isNone o && ltZ (pos 0) (firstOfMeter m)) e
 
-  nowhere : crossingOf m ≡ none → (j : ℕ) → CrossingAt m j → ⊥
+  pub nowhere : crossingOf m ≡ none → (j : ℕ) → CrossingAt m j → ⊥
   unfolding crossingOf crossingIn crossing
   nowhere e j c = no-crossing m j (not-found (crosses m) (listOf m .count) e j (c .place)) c
 
@@ -132,7 +132,7 @@ module _ (m : Meter) (t : Tested m) where
       (four 0 (past 15 (levelBelow m) _ (below-is (some j) e) (past 16 (levelAbove m) _ (above-is (some j) e) no-rule)))
       ∙ ap (λ (o : Option ℕ). record { number = firstOf (reportRules m); meter = m; report = cond (eqb (firstOf (reportRules m)) 0) (reportFor m o) noReport }) (sym e)
 
-  used : (j : ℕ) → crossingOf m ≡ some j → Used m j
+  pub used : (j : ℕ) → crossingOf m ≡ some j → Used m j
   unfolding crossingOf crossingIn crossing
   used j e = highest-used m j (found (crosses m) (listOf m .count) j e)
 
@@ -143,7 +143,7 @@ unfolding noReport noLevels words listFrom
 zero-report =
     record { n = refl; s = refl; high = refl; low = refl; a = refl; L = refl; A = refl; C = refl; F = refl; lower = refl; upper = refl; T = refl; M = refl; mark = refl }
 
-at-crossing : (m : Meter) (j : ℕ) → ReportAt m j (reportAt m j)
+pub at-crossing : (m : Meter) (j : ℕ) → ReportAt m j (reportAt m j)
 unfolding reportAt reportWith levelsAt
 at-crossing m j =
     record { n = refl; s = refl; sq = refl; a = refl; L = refl; A = refl; C = refl; F = refl; lower = refl; upper = refl; T = percent-is _; M = refl; mark = refl }

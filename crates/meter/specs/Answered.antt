@@ -1,17 +1,18 @@
 -- The report on a meter, as a relation between the meter and what is answered: "The report" and "Why a call is refused". It says what is
 -- reported, and nothing of how a crossing is searched for.
 use mathlib.Core.Bool.{true, false}
+use mathlib.Core.Option.{some}
 use mathlib.Core.Path.{_≡_}
-use Prim.Native.Nat.{ℕ, _<_}
+use Prim.Native.Nat.{ℕ, _≤_, _<_}
 use lib.IntN.{ℤ, pos, _-ℤ_}
 use lib.ListN.{replicate}
 use lib.Signed.{ltZ}
-use Rattle.level.specs.Logarithm.{lev}
+use Rattle.level.specs.Logarithm.{lev, levelOf}
 use Rattle.level.specs.Types.{samplesOf, activity, twoWords}
-use Rattle.thresholds.specs.Lists.{places}
+use Rattle.thresholds.specs.Lists.{places, thresholdOf}
 use Rattle.crossing.specs.Levels.{longTerm, excess}
 use Rattle.crossing.specs.Crossing.{isCrossing, lowerOf, upperOf, activeLevel}
-use Rattle.percent.specs.Percent.{IsPercent}
+use Rattle.percent.specs.Percent.{whole, IsPercent}
 use Rattle.setting.specs.Settings.{isMarked}
 use Rattle.meter.specs.declared.Meter.{Meter}
 use Rattle.meter.specs.declared.Report.{Report}
@@ -38,7 +39,7 @@ pub record Used (m : Meter) (j : ℕ) : Type 0 where
 pub record ReportAt (m : Meter) (j : ℕ) (r : Report) : Type 0 where
   pub n : r .n .0 ≡ m .state .sums .n .0
   pub s : r .s ≡ m .state .sums .s
-  pub sq : twoWords (r .sq) ≡ twoWords (m .state .sums .sq)
+  pub sq : r .sq ≡ m .state .sums .sq
   pub a : r .a ≡ m .state .a
   pub L : r .levels .level .0 ≡ longTerm (powerOf m) (m .state .sums .n .0)
   pub A : r .levels .active .0 ≡ activeLevel (marginOf m) (powerOf m) (listOf m) (m .state .a) j
@@ -87,3 +88,14 @@ pub data Answered (m : Meter) : ℕ → Report → Type 0 where
   level-above : (r : Report) → AllZero r → Active m → ((j : ℕ) → CrossingAt m j → ⊥) → ltZ (pos 0) (lowestExcess m) ≡ true → Answered m 16 r
   -- levels, at the crossing that is used
   levels : (r : Report) (j : ℕ) → 0 < m .state .sums .n .0 → 0 < twoWords (m .state .sums .sq) → Used m j → ReportAt m j r → Answered m 0 r
+
+-- what a report takes the level of has one: n and sq where they are above 0, each a_j that is, each threshold, and each percentage that it may try
+abbrev HasLevel : ℕ → Type 0
+HasLevel N = levelOf N ≡ some (pos (lev N))
+
+pub record LevelsExist (m : Meter) : Type 0 where
+  pub of-n : 0 < m .state .sums .n .0 → HasLevel (m .state .sums .n .0)
+  pub of-sq : 0 < twoWords (m .state .sums .sq) → HasLevel (twoWords (m .state .sums .sq))
+  pub of-a : (j : ℕ) → j < listOf m .count → 0 < activity (m .state .a) j → HasLevel (activity (m .state .a) j)
+  pub of-c : (j : ℕ) → j < listOf m .count → HasLevel (thresholdOf (listOf m) j)
+  pub of-T : (T : ℕ) → 1 ≤ T → T ≤ whole → HasLevel T

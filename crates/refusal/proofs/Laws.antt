@@ -1,12 +1,12 @@
 -- What is given: `given` for any rules none of which is numbered 0, and `lowest` where their numbers rise. `here`, `past` and `none` follow a call
 -- through its tests.
-use mathlib.Core.Bool.{Bool, true, false, cond, _&&_, _||_, and-false}
+use mathlib.Core.Bool.{Bool, true, false, cond, _&&_, _||_, and-false, or-true, true≢false}
 use mathlib.Core.List.{List, [], _∷_, _++_}
 use mathlib.Core.Path.{_≡_, refl, sym, ap, subst, _∙_}
 use Prim.Native.Nat.{ℕ, _≤_, _<_}
-use native.Mathlib.Nat.{le-of-eq, le-of-lt}
+use native.Mathlib.Nat.{le-antisymm, le-of-eq, le-of-lt, pos-of-ne-zero}
 use native.Mathlib.Omega.{arith}
-use borrow.Author.Tests.{eqb-true, ltb-true, lt-ltb}
+use borrow.Author.Tests.{eqb-true, eq-eqb, ltb-true, lt-ltb}
 use lib.Dec.{T, eqb, ltb, lit<}
 use lib.ListN.{getD}
 use Rattle.refusal.specs.declared.Refusal.{Refusal}
@@ -95,6 +95,27 @@ lowest n (r ∷ rest) s k a = go (r .1) a (λ h. lowest (r .0) rest (p .1) k h)
 
 pub given-lowest : (rules : List Rule) → rising 0 rules ≡ true → Given rules (firstOf rules) × Lowest rules (firstOf rules)
 given-lowest rules s = (given rules (rising-numbered 0 rules s), lowest 0 rules s)
+
+-- ---- what is given is the lowest that applies
+
+none-apply : (rules : List Rule) → NoneApplies rules → (i : ℕ) → applies rules i ≡ false
+unfolding NoneApplies applies
+none-apply [] n i = refl
+none-apply (r ∷ rest) n i = simp (n .0, and-false (eqb (r .0) i), none-apply rest (n .1) i)
+
+decides-applies : (before : List Rule) (k : ℕ) (after : List Rule) → applies (before ++ ((k, true) ∷ after)) k ≡ true
+unfolding applies
+decides-applies [] k after = simp (eq-eqb k k refl)
+decides-applies (r ∷ before) k after = ap (λ (b : Bool). (eqb (r .0) k && r .1) || b) (decides-applies before k after) ∙ or-true (eqb (r .0) k && r .1)
+
+pub lowest-given : {rules : List Rule} {k : ℕ} → Given rules k × Lowest rules k → (i : ℕ) → applies rules i ≡ true → Lowest rules i → k ≡ i
+lowest-given {rules} {k} g i a l = le-antisymm (g .1 i a) (l k (given-applies (pos-of-ne-zero some)))
+  where
+    some : k ≡ 0 → ⊥
+    some z = absurd (true≢false (sym a ∙ none-apply rules (g .0 .accepted .0 z) i))
+
+    given-applies : 0 < k → applies rules k ≡ true
+    given-applies h = let d = g .0 .refused h in ap (λ (l : List Rule). applies l k) (d .parts) ∙ decides-applies (d .before) k (d .after)
 
 -- ---- the numbers of the refusals
 

@@ -77,6 +77,7 @@ pub record Loaded (t : Thresholds) : Type 0 where
   pub most : t .count ≤ places
   pub rises : (j : ℕ) → j + 1 < t .count → thresholdOf t j < thresholdOf t (j + 1)
   pub first-least : 2 ^ 22 ≤ thresholdOf t 0
+  pub last-most : thresholdOf t (t .count - 1) ≤ 2 ^ 39
   pub zero-past : (j : ℕ) → t .count ≤ j → j < places → thresholdOf t j ≡ 0
 
 abbrev pairAt : Thresholds → ℕ → Bool
@@ -103,12 +104,13 @@ entries-in t u j h =
     let y = thresholdOf t (j + 1) in
     leb-false y x (neither (leb y x) (ltb (2 * x) y) (each-below (t .count - 1) (pairAt t) u j (omega arith)) .0)
 
-ends-in : (t : Thresholds) → wrongEnd t ≡ false → 2 ^ 22 ≤ thresholdOf t 0
+ends-in : (t : Thresholds) → wrongEnd t ≡ false → (2 ^ 22 ≤ thresholdOf t 0) × (thresholdOf t (t .count - 1) ≤ 2 ^ 39)
 unfolding wrongEnd
 ends-in t u =
     let f = thresholdOf t 0 in
-    let n = neither (outside (2 ^ 22) (2 ^ 24) f) (outside (2 ^ 37) (2 ^ 39) (thresholdOf t (t .count - 1))) u in
-    ltb-false f (2 ^ 22) (neither (ltb f (2 ^ 22)) (ltb (2 ^ 24) f) (n .0) .0)
+    let l = thresholdOf t (t .count - 1) in
+    let n = neither (outside (2 ^ 22) (2 ^ 24) f) (outside (2 ^ 37) (2 ^ 39) l) u in
+    (ltb-false f (2 ^ 22) (neither (ltb f (2 ^ 22)) (ltb (2 ^ 24) f) (n .0) .0), ltb-false (2 ^ 39) l (neither (ltb l (2 ^ 37)) (ltb (2 ^ 39) l) (n .1) .1))
 
 pub loaded : (t : Thresholds) → unloadable t ≡ false → Loaded t
 unfolding unloadable
@@ -119,7 +121,8 @@ loaded t u =
       least = length-in t (n .0) .0;
       most = length-in t (n .0) .1;
       rises = entries-in t (m .0);
-      first-least = ends-in t (m .1);
+      first-least = ends-in t (m .1) .0;
+      last-most = ends-in t (m .1) .1;
       zero-past = past-in t (n .0);
     }
 
@@ -136,3 +139,9 @@ rising t l =
       few = l .most;
       rises = λ i j h k. let e : i + (j - i) ≡ j = omega arith in subst (λ (x : ℕ). thresholdOf t i ≤ thresholdOf t x) e (climbs t l i (j - i) (omega arith));
     }
+
+-- every threshold of a list that loads is from 2^22 to 2^39
+pub within : (t : Thresholds) → Loaded t → (j : ℕ) → j < t .count → (2 ^ 22 ≤ thresholdOf t j) × (thresholdOf t j ≤ 2 ^ 39)
+within t l j h =
+    let r = rising t l in
+    (le-trans (l .first-least) (r .rises 0 j (omega arith) h), le-trans (r .rises j (t .count - 1) (omega arith) (omega arith)) (l .last-most))
