@@ -293,9 +293,9 @@ module _ (calls : List Call) (typed : Typed calls) where
   P : Demand3 plain calls
   P = claim .demand3 plain calls fits plain-opens typed
 
-  last-is-empty : (activity (meterAfter plain calls .state .a) 23 ≡ 0) × (getD (meterAfter plain calls .state .h) 23 0 ≡ 0)
+  last-is-empty : (thresholdOf (meterAfter plain calls .setting .thresholds) 23 ≡ 0) × (activity (meterAfter plain calls .state .a) 23 ≡ 0) × (getD (meterAfter plain calls .state .h) 23 0 ≡ 0)
   unfolding builtIn
-  last-is-empty = let e = P .past-end 23 (lit≤ tt) (lit< tt) in (e .count, e .hangover)
+  last-is-empty = let e = P .past-end 23 (lit≤ tt) (lit< tt) in (e .threshold, e .count, e .hangover)
 
   above-zero : reportAfter plain calls .number ≡ 0 → ltZ (pos 0) (reportAfter plain calls .report .levels .active .0) ≡ true
   above-zero z = P .above-zero refl z

@@ -1,5 +1,5 @@
 -- The test of a row, and that a row whose test passes holds. A percentage is never searched for: its law tells it.
-use mathlib.Core.Bool.{Bool, true, _&&_, and-eq-true-iff}
+use mathlib.Core.Bool.{Bool, true, not, _&&_, and-eq-true-iff}
 use mathlib.Core.List.{List, [], _∷_}
 use mathlib.Core.Option.{none, some}
 use mathlib.Core.Path.{_≡_, refl, sym, _∙_}
@@ -192,6 +192,11 @@ sound-test r e = testOf r .shows e
 unfoldable pub allTrue : (Row → Bool) → List Row → Bool
 allTrue f [] = true
 allTrue f (r ∷ rows) = f r && allTrue f rows
+
+-- whether none of them does
+unfoldable pub noneTrue : (Row → Bool) → List Row → Bool
+noneTrue f [] = true
+noneTrue f (r ∷ rows) = not (f r) && noneTrue f rows
 
 pub sound-table : (rows : List Row) → allTrue test rows ≡ true → All rows
 unfolding allTrue All

@@ -3,7 +3,7 @@ use mathlib.Core.Bool.{true, false}
 use mathlib.Core.List.{List, [], _∷_, _++_}
 use Prim.Native.Nat.{ℕ, zero, suc, _+_, _-_, _*_, _^_}
 use lib.IntN.{ℤ, pos, negsuc}
-use lib.ListN.{length, replicate}
+use lib.ListN.{length, replicate, take}
 use Rattle.level.specs.Types.{stepsOf}
 use Rattle.thresholds.specs.Places.{listFrom}
 use Rattle.thresholds.specs.Lists.{builtIn, heldOf}
@@ -83,6 +83,10 @@ second = given 16384 (2 ^ 30) (replicate 7 4096 ++ (2048 ∷ replicate 7 0))
 
 abbrev quiet : Meter
 quiet = given 32768 (2 ^ 20) (first 1 32768)
+
+-- a fresh meter without an offset, at a code, a margin and thresholds c, with the hangover I
+abbrev freshValues : (code : ℕ) (M : ℤ) (c : List ℕ) (I : ℕ) → Values
+freshValues code M c I = record { code = code; offset = pos 0; margin = M; count = length c; c = c; n = 0; s = pos 0; high = 0; low = 0; P = 0; Q = 0; a = []; h = replicate (length c) I }
 
 -- the meter of all zeros
 abbrev zeros : Values
@@ -322,36 +326,8 @@ table =
     -- a refused opening keeps no list
     ∷ played (listBy 1 wide) [] zeros
     -- an opening keeps its list, and its margin
-    ∷ played (listBy 3 shortest) [] (record {
-      code = 3;
-      offset = pos 0;
-      margin = pos 21635;
-      count = 14;
-      c = shortest;
-      n = 0;
-      s = pos 0;
-      high = 0;
-      low = 0;
-      P = 0;
-      Q = 0;
-      a = [];
-      h = replicate 14 3200;
-    })
-    ∷ played (marginBy 3 (pos 1)) [] (record {
-      code = 3;
-      offset = pos 0;
-      margin = pos 1;
-      count = 15;
-      c = powers;
-      n = 0;
-      s = pos 0;
-      high = 0;
-      low = 0;
-      P = 0;
-      Q = 0;
-      a = [];
-      h = replicate 15 3200;
-    })
+    ∷ played (listBy 3 shortest) [] (freshValues 3 (pos 21635) shortest 3200)
+    ∷ played (marginBy 3 (pos 1)) [] (freshValues 3 (pos 1) powers 3200)
     -- a refused one keeps nothing, neither the offset nor the margin
     ∷ played (marginBy 1 (pos 22315)) [] zeros
     ∷ played (offsetBy 4 (pos 5)) [] zeros
@@ -594,4 +570,53 @@ table =
     ∷ made 1 (2 ^ 48) (pos 1 ∷ []) (lent 512) 18 (lent 512)
     ∷ made 1 (2 ^ 48 - 247) (replicate 248 (pos 1)) (lent 512) 18 (lent 512)
     ∷ made 1 (2 ^ 64 - 1) (pos 1 ∷ []) (lent 512) 18 (lent 512)
+    ∷ []
+
+-- Rows that do not hold: those of the table with a value, a word or a number another, one or more of each kind. In the order of the table.
+unfoldable pub wrong : List Row
+wrong =
+    rate 1 693 49174 139 43
+    ∷ rate 2 8000 4360 1600 480
+    ∷ level 10 13607
+    ∷ sampled (usualSetting 2) (pos 32767 ∷ []) 2285825920 9504510 [] 14
+    ∷ percent (minus 54426) 0
+    -- one step more of A, and a hundredth less of T
+    ∷ reported second (record { L = pos 65536; A = pos 76670; C = pos 55034; F = minus 11133; lower = 6; upper = 7; T = 1519; M = pos 21635; mark = false })
+    ∷ reported second (record { L = pos 65536; A = pos 76669; C = pos 55034; F = minus 11133; lower = 6; upper = 7; T = 1518; M = pos 21635; mark = false })
+    ∷ refused quiet 16
+    -- lev from 30 places; a number in its range without a level
+    ∷ level 4407622486 131224
+    ∷ noLevel 1
+    ∷ opened (usualSetting 4) 0
+    ∷ played (marginBy 3 (pos 2)) [] (freshValues 3 (pos 1) powers 3200)
+    -- a refused opening that keeps its margin
+    ∷ played (marginBy 1 (pos 22315)) [] (freshValues 1 (pos 22315) powers 139)
+    ∷ handedIn (withQ (2 ^ 40 + 1) plain) 0
+    -- the second of two equal blocks is accepted
+    ∷ answered (freshAt 1) (block soundBlock ∷ block soundBlock ∷ []) (0 ∷ 0 ∷ [])
+    ∷ checked soundBlock 2 0
+    -- Q > c_j for Q ≥ c_j
+    ∷ sampled (usualSetting 1) (pos 9126 ∷ pos 11705 ∷ []) 16052775414 (2 ^ 30) (replicate 5 2 ++ (1 ∷ 0 ∷ replicate 8 0)) 16
+    -- the lower of two crossings, the second highest of three, and a change of sign upwards
+    ∷ reported (given (2 ^ 30) (2 ^ 40) (replicate 4 (2 ^ 30) ++ replicate 11 (2 ^ 14))) (record { L = pos 40960; A = pos 40960; C = pos 19325; F = pos 0; lower = 2; upper = 3; T = 10000; M = pos 21635; mark = false })
+    ∷ reported (given (2 ^ 20) (2 ^ 26) (2 ^ 20 ∷ 2 ^ 19 ∷ 2 ^ 16 ∷ 2 ^ 15 ∷ 2 ^ 12 ∷ replicate 10 (2 ^ 11))) (record { L = pos 24576; A = pos 43901; C = pos 22266; F = minus 19325; lower = 2; upper = 3; T = 379; M = pos 21635; mark = false })
+    ∷ reported (given (2 ^ 30) (2 ^ 40) (replicate 4 (2 ^ 30) ++ replicate 11 64)) (record { L = pos 40960; A = pos 46688; C = pos 25053; F = minus 5728; lower = 3; upper = 4; T = 3793; M = pos 21635; mark = false })
+    -- at other margins: no mark where there is one, 21635 steps from A to C, and the usual margin
+    ∷ reported (withMargin (pos 20954) second) (record { L = pos 65536; A = pos 77350; C = pos 56396; F = minus 11814; lower = 6; upper = 7; T = 1354; M = pos 20954; mark = false })
+    ∷ reported (withMargin (pos 20954) second) (record { L = pos 65536; A = pos 77350; C = pos 55715; F = minus 11814; lower = 6; upper = 7; T = 1354; M = pos 20954; mark = true })
+    ∷ reported (withMargin (pos 22314) second) (record { L = pos 65536; A = pos 75990; C = pos 53676; F = minus 10454; lower = 6; upper = 7; T = 1705; M = pos 21635; mark = false })
+    -- the interpolation rounded up
+    ∷ reported (given 16384 (2 ^ 30) (replicate 7 4096 ++ (3000 ∷ replicate 7 0))) (record { L = pos 65536; A = pos 74581; C = pos 52946; F = minus 9045; lower = 6; upper = 7; T = 2164; M = pos 21635; mark = false })
+    -- a count at c_8 is one less, and one of E's one more
+    ∷ played (usualSetting 1) run (ran (pos 21635) powers (260 ∷ 260 ∷ 260 ∷ 260 ∷ 260 ∷ 259 ∷ 258 ∷ 257 ∷ 255 ∷ 253 ∷ 249 ∷ 242 ∷ 229 ∷ 197 ∷ 146 ∷ []) (ranHangovers ++ (139 ∷ [])))
+    ∷ counted (usualSetting 1) run (threshold 13) 198
+    ∷ needsTwo (usualSetting 1) (chunk (replicate 44 (pos 5215) ++ (pos 5243 ∷ pos 5256 ∷ pos 5205 ∷ pos 5187 ∷ [])) ∷ []) 103556
+    -- a sample fewer, with which a D less by one is enough
+    ∷ needsD (usualSetting 1) (replicate 499 (pos 1) ++ (pos 31417 ∷ [])) 1175933558
+    -- E counts one more there, and cards that are 3 apart said to be 2 apart
+    ∷ cards 3 (offsetBy 1 (pos 300)) otherCard run mirrored 12 (4099 * 2 ^ 24 + 43) 229 229
+    ∷ cards 2 (offsetBy 1 (pos 300)) otherCard run mirrored 12 (4098 * 2 ^ 24 + 43) 228 229
+    -- the check words in each other's place, and another number
+    ∷ made 1 0 (pos 32767 ∷ []) (lent 512) 0 (take 508 exampleBytes ++ (127 ∷ 255 ∷ 1 ∷ 129 ∷ []))
+    ∷ made 1 0 [] (lent 512) 4 (lent 512)
     ∷ []
