@@ -16,7 +16,7 @@ use lib.Signed.{ltZ, leZ}
 use mir.Syntax.{w16}
 use mir.Val.{SFits}
 use Rattle.level.specs.Logarithm.{lev, levelOf, Facts}
-use Rattle.level.specs.Types.{activity, twoWords, stepsOf}
+use Rattle.level.specs.Types.{activity, twoWords}
 use Rattle.level.proofs.Laws.{pow-lt-cancel}
 use Rattle.thresholds.specs.Lists.{heldOf, doubled, builtIn, thresholdOf, wrongLength, wrongEntry, wrongEnd, listRules}
 use Rattle.thresholds.specs.Places.{listFrom, upTo, someBelow, someFrom}
@@ -24,7 +24,7 @@ use Rattle.rate.specs.Rates.{rateOf, isNamed, rowOf, Ceiling}
 use Rattle.refusal.specs.First.{firstOf, NoneApplies, applies, Lowest}
 use Rattle.refusal.proofs.Laws.{lowest-given}
 use Rattle.setting.specs.declared.Setting.{Setting}
-use Rattle.setting.specs.Settings.{kOf, iOf, dOf, usualSetting, wrongMargin}
+use Rattle.setting.specs.Settings.{kOf, iOf, dOf, usualSetting, withOffset, withMargin, withThresholds, wrongMargin}
 use Rattle.crossing.specs.Levels.{levelOfThreshold}
 use Rattle.coding.specs.Typed.{AllSamples, AllBytes}
 use Rattle.block.specs.Block.{rateCode, count, before, samplesIn}
@@ -61,14 +61,14 @@ lowest = negsuc 32767
 abbrev longest : List ℕ
 longest = 2 ^ 22 ∷ 3 * 2 ^ 21 ∷ 2 ^ 23 ∷ 3 * 2 ^ 22 ∷ 2 ^ 24 ∷ 3 * 2 ^ 23 ∷ 2 ^ 25 ∷ 3 * 2 ^ 24 ∷ 2 ^ 26 ∷ 3 * 2 ^ 25 ∷ 2 ^ 27 ∷ 3 * 2 ^ 26 ∷ listFrom (λ j. 2 ^ (28 + j)) 0 12
 
-abbrev far : Setting
-far = record { code = 3; offset = lowest; margin = stepsOf (pos 1); thresholds = heldOf longest }
+abbrev plain : Setting
+plain = withMargin (pos 22314) (withOffset lowest (usualSetting 3))
 
 abbrev farther : Setting
-farther = record { code = 3; offset = lowest; margin = stepsOf (pos 22314); thresholds = heldOf longest }
+farther = withThresholds (heldOf longest) plain
 
-abbrev plain : Setting
-plain = record { code = 3; offset = lowest; margin = stepsOf (pos 22314); thresholds = builtIn }
+abbrev far : Setting
+far = withMargin (pos 1) farther
 
 far-opens : Opens far
 unfolding openCall firstOf openRules unnamedCode isNamed rateOf wrongMargin listRules wrongLength wrongEntry wrongEnd heldOf listFrom someBelow someFrom

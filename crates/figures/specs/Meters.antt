@@ -4,14 +4,14 @@ use Prim.Native.Nat.{ℕ, _-_}
 use lib.IntN.{ℤ, pos}
 use lib.ListN.{length, replicate}
 use Rattle.level.specs.declared.Samples.{Samples}
-use Rattle.level.specs.Types.{samplesOf, stepsOf, words}
+use Rattle.level.specs.Types.{samplesOf, words}
 use Rattle.thresholds.specs.declared.Thresholds.{Thresholds}
 use Rattle.thresholds.specs.Lists.{places, heldOf}
 use Rattle.sample.specs.declared.State.{State}
 use Rattle.sample.specs.declared.Sums.{Sums}
 use Rattle.meter.specs.declared.Meter.{Meter}
 use Rattle.setting.specs.declared.Setting.{Setting}
-use Rattle.setting.specs.Settings.{usualSetting}
+use Rattle.setting.specs.Settings.{usualSetting, withCode as chosenCode, withOffset as chosenOffset, withMargin as chosenMargin, withThresholds as chosenThresholds}
 use Rattle.meter.specs.Calls.{fresh}
 
 -- numbers, and zeros in the places past them
@@ -24,13 +24,13 @@ placed count l = record { count = count; at = padded l }
 
 -- the usual setting of a code, with another offset, with another margin, and with other thresholds; and the fresh meter of a code
 abbrev pub offsetBy : (code : ℕ) (o : ℤ) → Setting
-offsetBy code o = record { code = code; offset = o; margin = usualSetting code .margin; thresholds = usualSetting code .thresholds }
+offsetBy code o = chosenOffset o (usualSetting code)
 
 abbrev pub marginBy : (code : ℕ) (M : ℤ) → Setting
-marginBy code M = record { code = code; offset = usualSetting code .offset; margin = stepsOf M; thresholds = usualSetting code .thresholds }
+marginBy code M = chosenMargin M (usualSetting code)
 
 abbrev pub placedBy : (code : ℕ) (t : Thresholds) → Setting
-placedBy code t = record { code = code; offset = usualSetting code .offset; margin = usualSetting code .margin; thresholds = t }
+placedBy code t = chosenThresholds t (usualSetting code)
 
 abbrev pub listBy : (code : ℕ) (l : List ℕ) → Setting
 listBy code l = placedBy code (heldOf l)
@@ -55,16 +55,16 @@ abbrev withSetting : Setting → Meter → Meter
 withSetting c m = record { setting = c; state = m .state }
 
 abbrev pub withCode : ℕ → Meter → Meter
-withCode code m = let c = m .setting in withSetting (record { code = code; offset = c .offset; margin = c .margin; thresholds = c .thresholds }) m
+withCode code m = withSetting (chosenCode code (m .setting)) m
 
 abbrev pub withOffset : ℤ → Meter → Meter
-withOffset o m = let c = m .setting in withSetting (record { code = c .code; offset = o; margin = c .margin; thresholds = c .thresholds }) m
+withOffset o m = withSetting (chosenOffset o (m .setting)) m
 
 abbrev pub withMargin : ℤ → Meter → Meter
-withMargin M m = let c = m .setting in withSetting (record { code = c .code; offset = c .offset; margin = stepsOf M; thresholds = c .thresholds }) m
+withMargin M m = withSetting (chosenMargin M (m .setting)) m
 
 abbrev pub withThresholds : Thresholds → Meter → Meter
-withThresholds t m = let c = m .setting in withSetting (record { code = c .code; offset = c .offset; margin = c .margin; thresholds = t }) m
+withThresholds t m = withSetting (chosenThresholds t (m .setting)) m
 
 abbrev pub withList : List ℕ → Meter → Meter
 withList l m = withThresholds (heldOf l) m

@@ -4,11 +4,10 @@ use mathlib.Core.List.{List, [], _∷_, _++_}
 use Prim.Native.Nat.{ℕ, zero, suc, _+_, _-_, _*_, _^_}
 use lib.IntN.{ℤ, pos, negsuc}
 use lib.ListN.{length, replicate, take}
-use Rattle.level.specs.Types.{stepsOf}
 use Rattle.thresholds.specs.Places.{listFrom}
-use Rattle.thresholds.specs.Lists.{builtIn, heldOf}
+use Rattle.thresholds.specs.Lists.{heldOf}
 use Rattle.setting.specs.declared.Setting.{Setting}
-use Rattle.setting.specs.Settings.{usualSetting}
+use Rattle.setting.specs.Settings.{usualSetting, withMargin as chosenMargin, withThresholds as chosenThresholds}
 use Rattle.meter.specs.declared.Meter.{Meter}
 use Rattle.meter.specs.Calls.{openCall}
 use Rattle.exact.specs.Calls.{Call, chunk, block}
@@ -140,10 +139,10 @@ mirrored =
 
 -- the setting of that card with the least margin, and with the fine list as well
 abbrev otherCard : Setting
-otherCard = record { code = 1; offset = pos 300; margin = stepsOf (pos 1); thresholds = builtIn }
+otherCard = chosenMargin (pos 1) (offsetBy 1 (pos 300))
 
 abbrev fineCard : Setting
-fineCard = record { code = 1; offset = pos 300; margin = stepsOf (pos 1); thresholds = heldOf fine }
+fineCard = chosenThresholds (heldOf fine) otherCard
 
 -- three samples after which Q is one unit under c_6, and q is not
 abbrev justUnder : List Call
@@ -319,8 +318,8 @@ table =
     ∷ opened (listBy 1 (from 24 16 ++ ((2 ^ 39 + 1) ∷ []))) 21
     ∷ opened (listBy 1 wrapping) 21
     -- the order: 1 before 17 before 19 before 20 before 21
-    ∷ opened (record { code = 4; offset = pos 0; margin = stepsOf (pos 0); thresholds = heldOf [] }) 1
-    ∷ opened (record { code = 1; offset = pos 0; margin = stepsOf (pos 0); thresholds = heldOf [] }) 17
+    ∷ opened (chosenMargin (pos 0) (listBy 4 [])) 1
+    ∷ opened (chosenMargin (pos 0) (listBy 1 [])) 17
     ∷ opened (listBy 1 (2 ^ 62 ∷ 2 ^ 62 ∷ from 24 11)) 19
     ∷ opened (listBy 1 (2 ^ 62 ∷ 2 ^ 62 ∷ from 24 12)) 20
     -- a refused opening keeps no list

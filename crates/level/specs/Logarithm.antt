@@ -45,7 +45,8 @@ unfoldable pub valueOf : Level → Option ℤ
 valueOf (At s) = some (s .0)
 valueOf None = none
 
--- the steps of an answer, 0 where there is no level
+-- the steps of an answer. Where there is no level they are 0, which lev(1) is too: a caller that met one could not tell. None does, as the claim's clause
+-- `levels-exist` says of a report
 abbrev pub stepsIn : Level → ℤ
 stepsIn (At s) = s .0
 stepsIn None = pos 0

@@ -51,7 +51,8 @@ impl Steps {
 }
 
 impl Level {
-    // The steps of a level, 0 where there is none.
+    // The steps of a level. Where there is none they are 0, as those of 1 are: a caller takes no level
+    // of a number that may have none.
     pub fn steps(self) -> Steps
         ensures { λ r. ⌜ r .0 ≡ stepsIn self ⌝ }
     {

@@ -3,10 +3,8 @@ use mathlib.Core.Bool.{cond}
 use mathlib.Core.List.{List}
 use Prim.Native.Nat.{ℕ}
 use lib.Dec.{eqb}
-use lib.IntN.{ℤ, pos}
-use Rattle.level.specs.Types.{stepsOf}
+use lib.IntN.{ℤ}
 use Rattle.refusal.specs.First.{firstOf}
-use Rattle.thresholds.specs.Lists.{noList}
 use Rattle.block.specs.Block.{samplesIn}
 use Rattle.refusal.specs.Number.{numberGiven}
 use Rattle.meter.specs.declared.Fed.{Fed}
@@ -14,7 +12,7 @@ use Rattle.meter.specs.declared.Meter.{Meter}
 use Rattle.setting.specs.declared.Setting.{Setting}
 use Rattle.sample.specs.declared.Counting.{Counting}
 use Rattle.sample.specs.Sample.{freshState, stateAfter}
-use Rattle.setting.specs.Settings.{kOf, iOf}
+use Rattle.setting.specs.Settings.{kOf, iOf, noSetting}
 use Rattle.meter.specs.declared.Report.{Report}
 use Rattle.meter.specs.declared.Reported.{Reported}
 use Rattle.meter.specs.Refusals.{openRules, chunkRules, blockCallRules}
@@ -44,7 +42,7 @@ fresh c = record { setting = c; state = freshState (c .thresholds .count) (iOf c
 
 -- the meter of all zeros, beside a refused opening
 unfoldable pub zeroMeter : Meter
-zeroMeter = record { setting = record { code = 0; offset = pos 0; margin = stepsOf (pos 0); thresholds = noList }; state = freshState 0 0 }
+zeroMeter = record { setting = noSetting; state = freshState 0 0 }
 
 -- what counting goes by: the rate's K and I, and the offset
 unfoldable pub countingOf : Setting → Counting

@@ -4,10 +4,10 @@ use mathlib.Core.Path.{_≡_}
 use Prim.Native.Nat.{ℕ, _-_}
 use lib.IntN.{pos}
 use lib.ListN.{replicate}
-use Rattle.level.specs.Types.{samplesOf, stepsOf}
-use Rattle.thresholds.specs.Lists.{places, noList}
+use Rattle.level.specs.Types.{samplesOf}
+use Rattle.thresholds.specs.Lists.{places}
 use Rattle.setting.specs.declared.Setting.{Setting}
-use Rattle.setting.specs.Settings.{iOf}
+use Rattle.setting.specs.Settings.{iOf, noSetting}
 use Rattle.meter.specs.declared.Meter.{Meter}
 
 -- the meter of a setting before any sample: each h_j of the list is I, and all else zero, the h_j past its end too
@@ -28,4 +28,4 @@ Fresh c m = Untouched c (iOf c) m
 
 -- the meter beside a refused opening: all zeros
 abbrev pub Zeros : Meter → Type 0
-Zeros m = Untouched (record { code = 0; offset = pos 0; margin = stepsOf (pos 0); thresholds = noList }) 0 m
+Zeros m = Untouched noSetting 0 m

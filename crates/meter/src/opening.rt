@@ -10,7 +10,6 @@ use crate::Meter;
 use crate::feeding;
 use level::Samples;
 use level::Squares;
-use level::Steps;
 use rate::Named;
 use rate::Rate;
 use refusal::Answer;
@@ -19,7 +18,6 @@ use sample::State;
 use sample::Sums;
 use setting::Setting;
 use thresholds::PLACES;
-use thresholds::Thresholds;
 
 impl Meter {
     // The fresh meter; or a refusal, with a meter of all zeros that every later call refuses.
@@ -50,13 +48,7 @@ impl Meter {
 fn unopened(why: Refusal) -> Fed
     ensures { λ r. ⌜ handedBy r ≡ refusedWith (numberOf why) zeroMeter ⌝ }
 {
-    let nothing = Setting {
-        code: 0,
-        offset: 0,
-        margin: Steps::of(0),
-        thresholds: Thresholds::none(),
-    };
-    feeding::refused(fresh(nothing, 0, 0), why)
+    feeding::refused(fresh(Setting::none(), 0, 0), why)
 }
 
 // A meter that has taken no sample: all zeros but the hangovers of the list's `count` thresholds.

@@ -5,7 +5,8 @@ use lib.IntN.{ℤ, pos}
 use lib.Signed.{ltZ}
 use Rattle.level.specs.Types.{stepsOf}
 use Rattle.rate.specs.Rates.{rowOf}
-use Rattle.thresholds.specs.Lists.{builtIn}
+use Rattle.thresholds.specs.declared.Thresholds.{Thresholds}
+use Rattle.thresholds.specs.Lists.{noList, builtIn}
 use Rattle.setting.specs.declared.Setting.{Setting}
 
 unfoldable pub kOf : Setting → ℕ
@@ -20,6 +21,23 @@ dOf c = rowOf (c .code) .d
 -- no offset, the margin that P.56 names, 21635 steps or 15.9 dB, and the built-in thresholds
 abbrev pub usualSetting : (code : ℕ) → Setting
 usualSetting code = record { code = code; offset = pos 0; margin = stepsOf (pos 21635); thresholds = builtIn }
+
+-- all zeros, for the meter beside a refused opening
+abbrev pub noSetting : Setting
+noSetting = record { code = 0; offset = pos 0; margin = stepsOf (pos 0); thresholds = noList }
+
+-- a setting with one of its fields another
+abbrev pub withCode : ℕ → Setting → Setting
+withCode code c = record { code = code; offset = c .offset; margin = c .margin; thresholds = c .thresholds }
+
+abbrev pub withOffset : ℤ → Setting → Setting
+withOffset o c = record { code = c .code; offset = o; margin = c .margin; thresholds = c .thresholds }
+
+abbrev pub withMargin : ℤ → Setting → Setting
+withMargin M c = record { code = c .code; offset = c .offset; margin = stepsOf M; thresholds = c .thresholds }
+
+abbrev pub withThresholds : Thresholds → Setting → Setting
+withThresholds t c = record { code = c .code; offset = c .offset; margin = c .margin; thresholds = t }
 
 -- 17: a margin outside 1 to 22314 steps, of which 22314 is the most that is not above 16.4 dB
 abbrev pub leastMargin : ℤ

@@ -5,7 +5,7 @@ mod margin;
 pub use margin::marked_margin;
 pub use margin::wrong_margin;
 ghost use mathlib.Core.Path.{_≡_};
-ghost use Rattle.setting.specs.Settings.{usualSetting};
+ghost use Rattle.setting.specs.Settings.{noSetting, usualSetting};
 use level::Steps;
 use thresholds::Thresholds;
 
@@ -33,6 +33,18 @@ impl Setting {
             offset: 0,
             margin: Steps::of(USUAL_MARGIN),
             thresholds: Thresholds::built_in(),
+        }
+    }
+
+    // All zeros, which no opening accepts.
+    pub fn none() -> Setting
+        ensures { λ r. ⌜ r ≡ noSetting ⌝ }
+    {
+        Setting {
+            code: 0,
+            offset: 0,
+            margin: Steps::of(0),
+            thresholds: Thresholds::none(),
         }
     }
 }
