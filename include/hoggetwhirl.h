@@ -9,8 +9,28 @@
 extern "C" {
 #endif
 
+/* Grows by 1 where something that this header declares is added or changed. */
+#define HOGGETWHIRL_VERSION 2
+
+/* How many bytes a sample block has, and how many samples it holds at most. */
+#define HOGGETWHIRL_BLOCK_BYTES 512
+#define HOGGETWHIRL_BLOCK_SAMPLES 248
+
+/* What the functions below return. Each says which of these it gives, and in which order. */
+enum hoggetwhirl_answer {
+    HOGGETWHIRL_ACCEPTED = 0,
+    HOGGETWHIRL_UNNAMED_RATE = 1,
+    HOGGETWHIRL_BLOCK_LENGTH = 4,
+    HOGGETWHIRL_BLOCK_CHECK = 5,
+    HOGGETWHIRL_BLOCK_KIND = 6,
+    HOGGETWHIRL_BLOCK_RATE = 7,
+    HOGGETWHIRL_BLOCK_COUNT = 8,
+    HOGGETWHIRL_BLOCK_UNUSED = 9,
+    HOGGETWHIRL_UNWRITABLE_SAMPLES = 18
+};
+
 /*
- * A sample block is 512 bytes, numbers little-endian:
+ * A sample block is HOGGETWHIRL_BLOCK_BYTES long, numbers little-endian:
  *
  *   bytes        field
  *   0            kind: 1
@@ -37,16 +57,16 @@ extern "C" {
  * length  how many bytes were received; any number is allowed.
  * code    the rate code of the line.
  *
- * Returns 0 where the block is sound and of that rate, else the number of the first of these
- * that applies:
+ * Returns HOGGETWHIRL_ACCEPTED, 0, where the block is sound and of that rate, else the number of
+ * the first of these that applies:
  *
- *   1  code names no rate: it is not 1, 2 or 3
- *   4  the block is not 512 bytes long
- *   5  a check word is wrong
- *   6  the kind is not 1
- *   7  the block's rate code is not code
- *   8  the count is not 1 to 248
- *   9  an unused byte, after the samples and up to 507, is not zero
+ *   1  HOGGETWHIRL_UNNAMED_RATE  code names no rate: it is not 1, 2 or 3
+ *   4  HOGGETWHIRL_BLOCK_LENGTH  the block is not 512 bytes long
+ *   5  HOGGETWHIRL_BLOCK_CHECK   a check word is wrong
+ *   6  HOGGETWHIRL_BLOCK_KIND    the kind is not 1
+ *   7  HOGGETWHIRL_BLOCK_RATE    the block's rate code is not code
+ *   8  HOGGETWHIRL_BLOCK_COUNT   the count is not 1 to 248
+ *   9  HOGGETWHIRL_BLOCK_UNUSED  an unused byte, after the samples and up to 507, is not zero
  *
  * The number of samples before the block is not looked at: only the meter knows the right one.
  */
@@ -66,12 +86,13 @@ uint32_t hoggetwhirl_check_block(const uint8_t *block, size_t length, uint32_t c
  *          them. Where length is 0 any pointer will do, NULL among them.
  * length   how long the buffer is; any number is allowed.
  *
- * Returns 0 where all 512 bytes of the buffer are now the block's, else the number of the first of
- * these that applies, and then the buffer is as it was:
+ * Returns HOGGETWHIRL_ACCEPTED, 0, where all 512 bytes of the buffer are now the block's, else the
+ * number of the first of these that applies, and then the buffer is as it was:
  *
- *   1   code names no rate: it is not 1, 2 or 3
- *   4   the buffer is not 512 bytes long
- *   18  count is not 1 to 248, or before and count together are more than 2^48
+ *   1   HOGGETWHIRL_UNNAMED_RATE        code names no rate: it is not 1, 2 or 3
+ *   4   HOGGETWHIRL_BLOCK_LENGTH        the buffer is not 512 bytes long
+ *   18  HOGGETWHIRL_UNWRITABLE_SAMPLES  count is not 1 to 248, or before and count together are
+ *                                       more than 2^48
  *
  * The check of a block so made, with the same code, gives 0; and a meter of that rate that has
  * measured as many samples as before says takes it.

@@ -1,8 +1,8 @@
 // The report program (METHOD.md, "Worked figures"): measures sample blocks of rate code 1 from standard
 // input. A refused block has its line as it is read; at the end come the closing lines, five about the
-// measurement and, where there is a level, one with the activity as a percentage. Where not all of the
-// input could be read, or not all lines written, standard error says so, and the closing lines are not
-// printed.
+// measurement and, where there is a level, one with the activity as a percentage. They go out by one
+// write. Where not all of the input could be read, or a write failed, standard error says so; the
+// closing lines are then not printed, or where it was theirs that failed, not to their end.
 use input::Streams;
 use level::Samples;
 use level::Squares;
