@@ -1,9 +1,11 @@
 /* Loaded before the C library (LD_PRELOAD): a `read` and a `write` that a signal seems to
  * interrupt, as often before each call that moves bytes as INTERRUPTIONS says, and that move at
- * most MOVED bytes at a time, where it is set. */
+ * most MOVED bytes at a time, where it is set. Into the file WRITES, where that is set, goes a line
+ * for each write to standard output, with how many bytes were handed over. */
 #define _GNU_SOURCE
 #include <dlfcn.h>
 #include <errno.h>
+#include <stdio.h>
 #include <stdlib.h>
 #include <sys/types.h>
 
@@ -21,6 +23,16 @@ static size_t moved(size_t length)
     const char *most = getenv("MOVED");
     size_t n = most ? (size_t)atol(most) : length;
     return n < length ? n : length;
+}
+
+static void noted(int fd, size_t length)
+{
+    const char *name = getenv("WRITES");
+    FILE *file = name && fd == 1 ? fopen(name, "a") : NULL;
+    if (!file)
+        return;
+    fprintf(file, "%zu\n", length);
+    fclose(file);
 }
 
 ssize_t read(int fd, void *bytes, size_t length)
@@ -42,5 +54,6 @@ ssize_t write(int fd, const void *bytes, size_t length)
         return -1;
     if (!real)
         *(void **)&real = dlsym(RTLD_NEXT, "write");
+    noted(fd, length);
     return real(fd, bytes, moved(length));
 }

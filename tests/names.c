@@ -1,9 +1,9 @@
-/* Every name that include/hoggetwhirl.h has: makes and checks blocks so that each answer is given, and
- * ends with the number of the first that is not the one named. */
+/* Every name that include/hoggetwhirl.h has: makes and checks blocks so that each answer is given,
+ * and ends with the number of the first that is not the one named. */
 #include "hoggetwhirl.h"
 
-#if HOGGETWHIRL_VERSION < 2
-#error "the header has no names before version 2"
+#ifndef HOGGETWHIRL_VERSION
+#error "the header names no version"
 #endif
 
 #define LAST_BYTE (HOGGETWHIRL_BLOCK_BYTES - 5) /* the last that may be unused */
@@ -44,7 +44,8 @@ static enum hoggetwhirl_answer damaged(size_t at, uint8_t byte) {
 }
 
 static int makes(void) {
-    if (made(2, HOGGETWHIRL_BLOCK_SAMPLES, HOGGETWHIRL_BLOCK_BYTES) != HOGGETWHIRL_ACCEPTED) return 1;
+    if (made(2, HOGGETWHIRL_BLOCK_SAMPLES, HOGGETWHIRL_BLOCK_BYTES) != HOGGETWHIRL_ACCEPTED)
+        return 1;
     if (checked(2, HOGGETWHIRL_BLOCK_BYTES) != HOGGETWHIRL_ACCEPTED) return 2;
     if (made(0, 1, HOGGETWHIRL_BLOCK_BYTES) != HOGGETWHIRL_UNNAMED_RATE) return 3;
     if (made(2, 1, HOGGETWHIRL_BLOCK_BYTES + 1) != HOGGETWHIRL_BLOCK_LENGTH) return 4;

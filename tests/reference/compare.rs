@@ -181,37 +181,3 @@ pub fn agrees(script: &[u8], output: &str) -> Option<Tally> {
         _ => None,
     }
 }
-
-/// Checks the meter of this program, with a show and a report after every call of a script.
-pub fn exact(script: &[u8]) -> Option<Tally> {
-    let (calls, bad) = read(script);
-    if bad {
-        return None;
-    }
-    let mut records = Vec::new();
-    for call in calls {
-        records.extend([call, Record::Show, Record::Report]);
-    }
-    let mut player = Player::new();
-    let lines: Vec<String> = records.iter().map(|record| player.answer(record)).collect();
-    Some(compare(
-        &records,
-        &lines.iter().map(String::as_str).collect::<Vec<_>>(),
-    ))
-}
-
-/// E's counts after a script, at each c_j and then at each c_j + D; None where there is no E.
-pub fn counts(script: &[u8]) -> Option<String> {
-    let mut comparison = Comparison::new();
-    let (calls, bad) = read(script);
-    let mut player = Player::new();
-    for (k, call) in calls.iter().enumerate() {
-        let line = player.answer(call);
-        comparison.line(k + 1, call, &line);
-    }
-    let exact = comparison.exact.filter(|_| !bad)?;
-    let list = comparison.setting.thresholds;
-    let counts = exact.counts(list.entries());
-    let counts: Vec<String> = counts.map(|u| u.to_string()).collect();
-    Some(format!("counts {}\n", counts.join(" ")))
-}

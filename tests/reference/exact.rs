@@ -109,15 +109,6 @@ impl Exact {
         }
         u
     }
-
-    /// E's counts at each c_j of a list and then at each c_j + D (the customer's scope, "One
-    /// sample"; the customer's request L8).
-    pub fn counts<'a>(&'a self, list: &'a [u64]) -> impl Iterator<Item = u64> + 'a {
-        let raised = list.iter().map(|c_j| c_j + self.rate.D());
-        let plain = list.iter().copied();
-        plain.chain(raised).map(|c| self.count(c))
-    }
-
     /// Demand 3: no a_j is above E's count at c_j of a list (the customer's request L8).
     pub fn counts_from_above(&self, list: &[u64], a: &[u64]) -> bool {
         let mut pairs = list.iter().zip(a);

@@ -53,7 +53,7 @@ const BAD_RECORD: &str = "the script has a bad record";
 /// The commands.
 const COMMANDS: &str = "replay | report | host | generate KIND SEED COUNT | records [host] | \
     answers | values KIND NAME.. | blocks CODE [K] | \
-    recorded CODE | noise D SEED | figures | exact | counts | samples | largest | crossed | \
+    recorded CODE | noise D SEED | figures | samples | largest | crossed | \
     chosen | margins | listed | agrees SCRIPT OUTPUT | written SCRIPT OUTPUT | \
     cards SCRIPT OUTPUT SCRIPT OUTPUT | compared RECORDING OUTPUT RECORDING OUTPUT | \
     clause11 script | clause11 check OUTPUT | speech ...";
@@ -261,11 +261,6 @@ fn run(arguments: &[&str]) -> io::Result<bool> {
         ["recorded", code] => output(&measurement::recorded(rate_of(code)?, &input()?)),
         ["noise", most, seed] => noise(most, seed),
         ["figures"] => Ok(figures::figures()),
-        ["exact"] => counted(compare::exact(&input()?)),
-        ["counts"] => lines(
-            compare::counts(&input()?),
-            "a script has an opening to accept and no bad record",
-        ),
         [word @ ("samples" | "largest" | "crossed" | "chosen" | "margins" | "listed")] => {
             lines(told(word, &input()?), BAD_RECORD)
         }

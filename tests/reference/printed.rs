@@ -40,7 +40,7 @@ pub fn level(line: &str) -> Option<Level> {
     Level::of(&numbers(line, "level")?)
 }
 
-/// The n and the a_j of the built-in list that the report program printed, each on a line of its own.
+/// The n and the a_j of the built-in list that the report program printed, each on its own line.
 pub fn measured(output: &str) -> Option<(u64, [u64; PLACES])> {
     let line = |word| output.lines().find_map(|line| numbers(line, word));
     let [n] = line("samples")?[..] else {

@@ -1,4 +1,5 @@
--- The meter's envelope against E's: `follows`. The rounded step against the exact one, at any K from 1 to G. A value v is within m·G/K below n/W; an input within l·G/K below its exact one
+-- The meter's envelope against E's: `envelope-bound`. The rounded step against the exact one, at any K from 1 to G. A value v is within m·G/K below n/W; an
+-- input within l·G/K below its exact one
 -- keeps what is within (l + 1)·G/K there. So P stays within G/K of p, and Q within 2·G/K of q: one law twice. G is written R + K, and the floor's
 -- result is a variable, so that nothing is subtracted or divided.
 use mathlib.Core.List.{List, [], _∷_}

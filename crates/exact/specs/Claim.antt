@@ -1,5 +1,5 @@
 -- The whole claim: the customer's three demands, what his scope says beside them of the logarithm and of the rates, and of his requests the one that is a
--- theorem of its own. Each is stated in a file of its own. What is in quotes are his words.
+-- theorem of its own. Each is stated where it is imported from. What is in quotes are his words.
 use mathlib.Core.Bool.{true, false}
 use mathlib.Core.List.{List}
 use mathlib.Core.Path.{_≡_}
@@ -26,7 +26,7 @@ pub record Claim : Type 0 where
   pub levels-exist : (m : Meter) → impossible m ≡ false → LevelsExist m
   -- "I is 0.2 s rounded up to samples", and D "is the smallest whole number not below 2^21/K"
   pub rates : (code : ℕ) → isNamed code ≡ true → Keeps (rowOf code)
-  -- what that D is for, of any K that is a coefficient: the envelope's error
+  -- what D is "in the units of P and Q" for: the envelope's error, of any K that is a coefficient
   pub envelope : (t : Thresholds) (K I D : ℕ) (o : ℤ) (xs : List ℤ) → 1 ≤ K → K ≤ 2 ^ 20 → Ceiling (2 ^ 21) K D → EnvelopeBound t K I D o xs
   -- L7: "We want this shown for all lengths and all whole d"
   pub two-cards : (d : ℕ) (c c′ : Setting) (calls calls′ : List Call) → TypedOffset c → Typed calls → Typed calls′ → OneLine d c c′ calls calls′

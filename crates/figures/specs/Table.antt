@@ -87,9 +87,12 @@ quiet = given 32768 (2 ^ 20) (first 1 32768)
 abbrev freshValues : (code : ℕ) (M : ℤ) (c : List ℕ) (I : ℕ) → Values
 freshValues code M c I = record { code = code; offset = pos 0; margin = M; count = length c; c = c; n = 0; s = pos 0; high = 0; low = 0; P = 0; Q = 0; a = []; h = replicate (length c) I }
 
--- the meter of all zeros
+-- the meter of all zeros but a margin, and of all zeros
+abbrev zerosBut : (M : ℤ) → Values
+zerosBut M = freshValues 0 M [] 0
+
 abbrev zeros : Values
-zeros = record { code = 0; offset = pos 0; margin = pos 0; count = 0; c = []; n = 0; s = pos 0; high = 0; low = 0; P = 0; Q = 0; a = []; h = [] }
+zeros = zerosBut (pos 0)
 
 -- 260 samples at code 1: loud ones, a refused block of three bytes, a sound one of twenty samples, and near silence in which hangovers run out
 unfoldable pub run : List Call
@@ -589,7 +592,7 @@ wrong =
     ∷ opened (usualSetting 4) 0
     ∷ played (marginBy 3 (pos 2)) [] (freshValues 3 (pos 1) powers 3200)
     -- a refused opening that keeps its margin
-    ∷ played (marginBy 1 (pos 22315)) [] (freshValues 1 (pos 22315) powers 139)
+    ∷ played (marginBy 1 (pos 22315)) [] (zerosBut (pos 22315))
     ∷ handedIn (withQ (2 ^ 40 + 1) plain) 0
     -- the second of two equal blocks is accepted
     ∷ answered (freshAt 1) (block soundBlock ∷ block soundBlock ∷ []) (0 ∷ 0 ∷ [])
