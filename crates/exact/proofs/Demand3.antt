@@ -35,7 +35,7 @@ use Rattle.exact.specs.Worked.{Worked}
 use Rattle.exact.proofs.Calls.{Good, good-possible, good-after, good-open, same-answers, same-samples}
 use Rattle.exact.proofs.Lost.{exactly-is, measured, exact-squares}
 use Rattle.exact.proofs.Tied.{same-code}
-use Rattle.exact.proofs.Worked.{at-first, worked}
+use Rattle.exact.proofs.AsStated.{at-first, worked}
 
 -- E keeps its code
 kept-code : (calls : List Call) (e : E) → exactly e calls .code ≡ e .code

@@ -51,7 +51,7 @@ use Rattle.exact.specs.TwoCards.{Alike, meterCount, TwoCards}
 use Rattle.exact.specs.Worked.{AtFirst, Worked}
 use Rattle.exact.proofs.Claim.{claim}
 use Rattle.exact.proofs.Signs.{Whole, at-sign}
-use Rattle.exact.proofs.Worked.{worked-once}
+use Rattle.exact.proofs.AsStated.{worked-once}
 
 -- ---- the ends: the last code, the lowest offset, the least margin and a list of 24, up to 2^39; and there the largest margin and the built-in list
 

@@ -3,6 +3,7 @@ mod Calls
 mod Envelope
 mod Powers
 mod Written
+pub mod AsStated
 pub mod Claim
 pub mod Crossings
 pub mod Demand3
@@ -13,4 +14,3 @@ pub mod NoOffset
 pub mod Signs
 pub mod Tied
 pub mod TwoCards
-pub mod Worked
