@@ -1,5 +1,5 @@
 -- Every row of the table holds, and no wrong row passes: the tests of all rows are computed. This is the one place that opens lev. The search for a percentage stays shut.
-use mathlib.Core.Bool.{true, _&&_, and-eq-true-iff}
+use mathlib.Core.Bool.{true}
 use mathlib.Core.Path.{_≡_, refl}
 use Rattle.level.specs.Types.{words}
 use Rattle.level.specs.Logarithm.{placeUpTo, place, start as startOf, bit, next, spell, lev, levelOf}
@@ -33,16 +33,11 @@ use Rattle.figures.specs.Rows.{sampledMeter, meterFrom, exactFrom, numbe
 use Rattle.figures.specs.Table.{softly, run, mirrored, faults, table, wrong}
 use Rattle.figures.proofs.Rows.{sameShown, alike, testOf, test, allTrue, noneTrue, sound-table}
 
--- every row of the table passes its test, and no wrong row does
-computed : allTrue test table && noneTrue test wrong ≡ true
-unfolding placeUpTo place startOf bit next spell lev levelOf rateOf isNamed rowOf firstOf numberAt kind rateCode count before signed samplesAt samplesIn word sumBelow checkSum weightedSum wrongLength wrongCheck wrongKind wrongRate wrongCount zeros usedUnused blockRules sound hostRules hostCheck bytesOf wordOf bytesOfSamples contentsOf blockOf unwritable writeRules writeCall counted hung smooth size rectified heldOf noList doubled builtIn wrongListLength wrongEntry wrongEnd listRules unloadable listFrom upTo words freshState kOf iOf dOf fresh zeroMeter countingOf afterSamples summed counts hangovers stateAfterOne stateAfter longTerm activeAt levelOfThreshold excess isCrossing highestBelow crossing lowerOf activeLevel notAbove anyOf someBelow someFrom unnamedCode wrongMargin manySamples largeSum largeSquares largeP largeQ impossibleSums longHangover largeCount risingCount fallingHangover impossibleCounter filledCounter impossible longChunk wrongPlace tooMany openRules chunkRules blockCallRules levelsAt noLevels crossingIn firstExcess crossingOf firstOfMeter noSamples noSignal noActivity levelBelow levelAbove reportRules noReport reportWith reportAt reportFor openCall chunkCall blockCall reportCall startAt start distance reaches countNext hangoverNext takeOne takeAll accepts broughtBy fed exactly called accepted after taken given sampledMeter meterFrom exactFrom numbersOf carriedBy measurementOf shownBy valuesOf inPlaces pairs blockWith soundBlock fullBlock endBlock twenty lastBlock lastFull exampleBytes plainBytes threeBytes otherSum highSum otherWeighted otherKind otherCode noCount highCount usedNext usedLast softly run mirrored faults table wrong sameShown alike testOf test allTrue noneTrue
-computed = refl
-
-abbrev parts : (allTrue test table ≡ true) × (noneTrue test wrong ≡ true)
-parts = and-eq-true-iff (allTrue test table) (noneTrue test wrong) .0 computed
-
 pub figures : All table
-figures = sound-table table (parts .0)
+unfolding placeUpTo place startOf bit next spell lev levelOf rateOf isNamed rowOf firstOf numberAt kind rateCode count before signed samplesAt samplesIn word sumBelow checkSum weightedSum wrongLength wrongCheck wrongKind wrongRate wrongCount zeros usedUnused blockRules sound hostRules hostCheck bytesOf wordOf bytesOfSamples contentsOf blockOf unwritable writeRules writeCall counted hung smooth size rectified heldOf noList doubled builtIn wrongListLength wrongEntry wrongEnd listRules unloadable listFrom upTo words freshState kOf iOf dOf fresh zeroMeter countingOf afterSamples summed counts hangovers stateAfterOne stateAfter longTerm activeAt levelOfThreshold excess isCrossing highestBelow crossing lowerOf activeLevel notAbove anyOf someBelow someFrom unnamedCode wrongMargin manySamples largeSum largeSquares largeP largeQ impossibleSums longHangover largeCount risingCount fallingHangover impossibleCounter filledCounter impossible longChunk wrongPlace tooMany openRules chunkRules blockCallRules levelsAt noLevels crossingIn firstExcess crossingOf firstOfMeter noSamples noSignal noActivity levelBelow levelAbove reportRules noReport reportWith reportAt reportFor openCall chunkCall blockCall reportCall startAt start distance reaches countNext hangoverNext takeOne takeAll accepts broughtBy fed exactly called accepted after taken given sampledMeter meterFrom exactFrom numbersOf carriedBy measurementOf shownBy valuesOf inPlaces pairs blockWith soundBlock fullBlock endBlock twenty lastBlock lastFull exampleBytes plainBytes threeBytes otherSum highSum otherWeighted otherKind otherCode noCount highCount usedNext usedLast softly run mirrored faults table sameShown alike testOf test allTrue
+figures = sound-table table refl
 
+-- Apart from the table: the checker counts the steps of one declaration, and both together are too many.
 pub none-passes : noneTrue test wrong ≡ true
-none-passes = parts .1
+unfolding placeUpTo place startOf bit next spell lev levelOf rateOf isNamed rowOf firstOf numberAt kind rateCode count before signed samplesAt samplesIn word sumBelow checkSum weightedSum wrongLength wrongCheck wrongKind wrongRate wrongCount zeros usedUnused blockRules sound hostRules hostCheck bytesOf wordOf bytesOfSamples contentsOf blockOf unwritable writeRules writeCall counted hung smooth size rectified heldOf noList doubled builtIn wrongListLength wrongEntry wrongEnd listRules unloadable listFrom upTo words freshState kOf iOf dOf fresh zeroMeter countingOf afterSamples summed counts hangovers stateAfterOne stateAfter longTerm activeAt levelOfThreshold excess isCrossing highestBelow crossing lowerOf activeLevel notAbove anyOf someBelow someFrom unnamedCode wrongMargin manySamples largeSum largeSquares largeP largeQ impossibleSums longHangover largeCount risingCount fallingHangover impossibleCounter filledCounter impossible longChunk wrongPlace tooMany openRules chunkRules blockCallRules levelsAt noLevels crossingIn firstExcess crossingOf firstOfMeter noSamples noSignal noActivity levelBelow levelAbove reportRules noReport reportWith reportAt reportFor openCall chunkCall blockCall reportCall startAt start distance reaches countNext hangoverNext takeOne takeAll accepts broughtBy fed exactly called accepted after taken given sampledMeter meterFrom exactFrom numbersOf carriedBy measurementOf shownBy valuesOf inPlaces pairs blockWith soundBlock fullBlock endBlock twenty lastBlock lastFull exampleBytes plainBytes threeBytes otherSum highSum otherWeighted otherKind otherCode noCount highCount usedNext usedLast softly run mirrored faults wrong sameShown alike testOf test noneTrue
+none-passes = refl
