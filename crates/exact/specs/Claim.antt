@@ -26,7 +26,7 @@ pub record Claim : Type 0 where
   pub levels-exist : (m : Meter) → impossible m ≡ false → LevelsExist m
   -- "I is 0.2 s rounded up to samples", and D "is the smallest whole number not below 2^21/K"
   pub rates : (code : ℕ) → isNamed code ≡ true → Keeps (rowOf code)
-  -- what D is "in the units of P and Q" for: the envelope's error, of any K that is a coefficient
+  -- what such a D, "in the units of P and Q", is a bound of: the envelope's error, for any K that makes a coefficient
   pub envelope : (t : Thresholds) (K I D : ℕ) (o : ℤ) (xs : List ℤ) → 1 ≤ K → K ≤ 2 ^ 20 → Ceiling (2 ^ 21) K D → EnvelopeBound t K I D o xs
   -- L7: "We want this shown for all lengths and all whole d"
   pub two-cards : (d : ℕ) (c c′ : Setting) (calls calls′ : List Call) → TypedOffset c → Typed calls → Typed calls′ → OneLine d c c′ calls calls′

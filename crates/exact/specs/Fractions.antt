@@ -11,7 +11,7 @@ pub record Fraction : Type 0 where
 abbrev pub Same : Fraction → Fraction → Type 0
 Same a b = a .over * b .under ≡ b .over * a .under
 
--- a fraction is at least a whole number, and less than one
+-- a fraction is at least n, and less than n
 abbrev pub AtLeast : Fraction → ℕ → Type 0
 AtLeast a n = n * a .under ≤ a .over
 
