@@ -29,7 +29,7 @@ fn main() {
             packing::closed(asked.code, all, &samples, &mut blocks);
         }
         Words::Bad => page::told(
-            b"blocks takes at most two words, a rate code, 1, 2 or 3, and a number k from 1 to 999999999: it reads signed samples of two bytes, the low byte first, from standard input, and writes sample blocks of the first of them and every k-th after it\n",
+            b"blocks takes at most two words, a rate code from 1 to 5 and a number k from 1 to 999999999: it reads signed samples of two bytes, the low byte first, from standard input, and writes sample blocks of the first of them and every k-th after it\n",
         ),
     }
 }

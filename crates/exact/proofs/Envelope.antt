@@ -2,6 +2,7 @@
 -- input within l·G/K below its exact one
 -- keeps what is within (l + 1)·G/K there. So P stays within G/K of p, and Q within 2·G/K of q: one law twice. G is written R + K, and the floor's
 -- result is a variable, so that nothing is subtracted or divided.
+use mathlib.Core.Bool.{true}
 use mathlib.Core.List.{List, [], _∷_}
 use mathlib.Core.Path.{_≡_, refl, sym, subst}
 use Prim.Native.Nat.{ℕ, suc, _+_, _*_, _-_, _/_, _^_, _≤_, _<_}
@@ -9,7 +10,8 @@ use native.Mathlib.Nat.{div-mul-le-self, lt-div-mul-add, mul-le-mul-right, mul-l
 use native.Mathlib.Omega.{arith}
 use lib.Dec.{lit<}
 use lib.IntN.{ℤ}
-use Rattle.rate.specs.Rates.{Ceiling}
+use Rattle.rate.specs.Rates.{Ceiling, isNamed, rowOf}
+use Rattle.rate.proofs.Laws.{row-keeps}
 use Rattle.thresholds.specs.declared.Thresholds.{Thresholds}
 use Rattle.sample.specs.declared.State.{State}
 use Rattle.sample.specs.Envelope.{smooth, size, rectified}
@@ -141,3 +143,9 @@ envelope-bound t K I D o xs k0 kG d =
       never-above = f .q .low;
       less-than-D = near-below (2 ^ 20) (takeAll e xs .K) 2 _ _ _ D (subst (λ (k : ℕ). 2 ^ 21 ≤ D * k) (sym (same-K xs e)) (d .not-below)) (f .q);
     }
+
+-- each named rate is a use of it
+pub at-named-rate : (code : ℕ) → isNamed code ≡ true → (t : Thresholds) (o : ℤ) (xs : List ℤ) → let r = rowOf code in EnvelopeBound t (r .k) (r .i) (r .d) o xs
+at-named-rate code n t o xs =
+    let r = row-keeps code n in
+    envelope-bound t _ _ _ o xs (r .k-low) (r .k-high) (r .d-rule)

@@ -1,14 +1,14 @@
 -- The claim, used: each clause at an end of what it is about, so that a claim that says less no longer proves what stands here. That what the clauses
 -- speak of leaves nothing to choice is shown where it is: `only` and `untouched-once` of `meter`, `worked-once` beside this file.
-use mathlib.Core.Bool.{true, false, cond}
+use mathlib.Core.Bool.{true, false, cond, and-eq-true-iff}
 use mathlib.Core.List.{List, [], _∷_}
 use mathlib.Core.Logic.{_⊎_}
 use mathlib.Core.Option.{some}
 use mathlib.Core.Path.{_≡_, refl, sym, ap, _∙_, subst}
-use Prim.Native.Nat.{ℕ, zero, suc, _+_, _*_, _^_, _≤_, _<_}
+use Prim.Native.Nat.{ℕ, zero, suc, _+_, _-_, _*_, _^_, _≤_, _<_}
 use native.Mathlib.Nat.{le-antisymm, le-of-eq, lt-of-le-of-lt}
 use native.Mathlib.Omega.{arith}
-use borrow.Author.Tests.{ne-eqb, le-leb}
+use borrow.Author.Tests.{ne-eqb, leb-true, le-leb}
 use lib.Dec.{eqb, lit<, lit≤}
 use lib.IntN.{ℤ, pos, negsuc, _+ℤ_}
 use lib.ListN.{length, getD}
@@ -20,7 +20,7 @@ use Rattle.level.specs.Types.{activity, twoWords}
 use Rattle.level.proofs.Laws.{pow-lt-cancel}
 use Rattle.thresholds.specs.Lists.{heldOf, doubled, builtIn, thresholdOf, wrongLength, wrongEntry, wrongEnd, listRules}
 use Rattle.thresholds.specs.Places.{listFrom, upTo, someBelow, someFrom}
-use Rattle.rate.specs.Rates.{rateOf, isNamed, rowOf, Ceiling}
+use Rattle.rate.specs.Rates.{rateOf, isNamed, rowOf, Ceiling, lastsAtLeast, lastsAtMost, keepsTime}
 use Rattle.refusal.specs.First.{firstOf, NoneApplies, applies, Lowest}
 use Rattle.refusal.proofs.Laws.{lowest-given}
 use Rattle.setting.specs.declared.Setting.{Setting}
@@ -62,7 +62,7 @@ abbrev longest : List ℕ
 longest = 2 ^ 22 ∷ 3 * 2 ^ 21 ∷ 2 ^ 23 ∷ 3 * 2 ^ 22 ∷ 2 ^ 24 ∷ 3 * 2 ^ 23 ∷ 2 ^ 25 ∷ 3 * 2 ^ 24 ∷ 2 ^ 26 ∷ 3 * 2 ^ 25 ∷ 2 ^ 27 ∷ 3 * 2 ^ 26 ∷ listFrom (λ j. 2 ^ (28 + j)) 0 12
 
 abbrev plain : Setting
-plain = withMargin (pos 22314) (withOffset lowest (usualSetting 3))
+plain = withMargin (pos 22314) (withOffset lowest (usualSetting 5))
 
 abbrev farther : Setting
 farther = withThresholds (heldOf longest) plain
@@ -137,8 +137,8 @@ block-hands m b = by-number (blockCall m b .number) (claim .demand2 .block-sampl
 report-hands : (m : Meter) → reportCall m .meter ≡ m
 report-hands m = claim .demand1 .report-hands-back m
 
-unwritten : (n : ℕ) (xs : List ℤ) (b : List ℕ) → writeCall 4 n xs b .number ≡ 1 → writeCall 4 n xs b .buffer ≡ b
-unwritten n xs b h = claim .demand1 .write-refused 4 n xs b (omega (arith, h))
+unwritten : (n : ℕ) (xs : List ℤ) (b : List ℕ) → writeCall 6 n xs b .number ≡ 1 → writeCall 6 n xs b .buffer ≡ b
+unwritten n xs b h = claim .demand1 .write-refused 6 n xs b (omega (arith, h))
 
 -- a refused opening hands back the one meter of all zeros, which no call changes and no report is given on
 module _ (c : Setting) (refused : 0 < openCall c .number) where
@@ -168,13 +168,13 @@ module _ (c : Setting) (refused : 0 < openCall c .number) where
 one-fresh : (m : Meter) → Fresh far m → openCall far .meter ≡ m
 one-fresh m f = untouched-once (claim .demand2 .opened far far-opens) f
 
-measured : (calls : List Call) → meterAfter far calls .state ≡ stateAfter (record { k = 2182; i = 3200; offset = lowest }) (heldOf longest) (freshState 24 3200) (takenFrom far calls)
+measured : (calls : List Call) → meterAfter far calls .state ≡ stateAfter (record { k = 728; i = 9600; offset = lowest }) (heldOf longest) (freshState 24 9600) (takenFrom far calls)
 unfolding countingOf kOf iOf rowOf rateOf heldOf freshState upTo listFrom
 measured calls = ap (λ (m : Meter). m .state) (claim .demand2 .measured far calls far-opens)
 
-no-offset : (xs : List ℤ) → afterSamples (fresh (usualSetting 3)) xs .state ≡ rawAfter builtIn 2182 3200 (freshState 15 3200) xs
+no-offset : (xs : List ℤ) → afterSamples (fresh (usualSetting 5)) xs .state ≡ rawAfter builtIn 728 9600 (freshState 15 9600) xs
 unfolding kOf iOf rowOf rateOf builtIn
-no-offset xs = claim .demand2 .no-offset (usualSetting 3) xs refl
+no-offset xs = claim .demand2 .no-offset (usualSetting 5) xs refl
 
 -- at both ends of the margin
 same-answers : (calls : List Call) → Typed calls → answersTo farther calls ≡ answersTo far calls
@@ -192,9 +192,9 @@ last-place = claim .demand2 .built-in-past 23 (lit≤ tt)
 last-level : levelOfThreshold (thresholdOf builtIn 14) ≡ pos 114688
 last-level = claim .demand2 .built-in-levels 14 (lit< tt)
 
-last-opens : Opens (usualSetting 3)
+last-opens : Opens (usualSetting 5)
 unfolding isNamed rateOf
-last-opens = claim .demand2 .usual-opens 3 refl
+last-opens = claim .demand2 .usual-opens 5 refl
 
 level-or-one-of-five : (m : Meter) → impossible m ≡ false → (reportCall m .number ≡ 0) ⊎ ((12 ≤ reportCall m .number) × (reportCall m .number ≤ 16))
 level-or-one-of-five m ok = level-or-refusal (claim .demand2 .reported m ok)
@@ -227,15 +227,15 @@ empty : chunkCall (openCall far .meter) [] ≡ record { number = 0; meter = open
 unfolding after Typed
 empty = claim .demand2 .empty-chunk (openCall far .meter) (claim .demand1 .nothing-lost far [] fits far-opens tt .possible)
 
-module _ (n : ℕ) (xs : List ℤ) (b : List ℕ) (typed : AllSamples xs) (ok : writeCall 3 n xs b .number ≡ 0) where
-  read-back : samplesIn (writeCall 3 n xs b .buffer) ≡ xs
-  read-back = claim .demand2 .written 3 n xs b typed ok .samples
+module _ (n : ℕ) (xs : List ℤ) (b : List ℕ) (typed : AllSamples xs) (ok : writeCall 5 n xs b .number ≡ 0) where
+  read-back : samplesIn (writeCall 5 n xs b .buffer) ≡ xs
+  read-back = claim .demand2 .written 5 n xs b typed ok .samples
 
-  host-passes : hostCheck (writeCall 3 n xs b .buffer) 3 ≡ 0
-  host-passes = claim .demand2 .written 3 n xs b typed ok .checked
+  host-passes : hostCheck (writeCall 5 n xs b .buffer) 5 ≡ 0
+  host-passes = claim .demand2 .written 5 n xs b typed ok .checked
 
-  meter-takes : (m : Meter) → m .setting .code ≡ 3 → m .state .sums .n .0 ≡ n → impossible m ≡ false → blockCall m (writeCall 3 n xs b .buffer) .meter ≡ afterSamples m xs
-  meter-takes m c e p = ap (λ (h : Handed). h .meter) (claim .demand2 .written 3 n xs b typed ok .taken m c e p)
+  meter-takes : (m : Meter) → m .setting .code ≡ 5 → m .state .sums .n .0 ≡ n → impossible m ≡ false → blockCall m (writeCall 5 n xs b .buffer) .meter ≡ afterSamples m xs
+  meter-takes m c e p = ap (λ (h : Handed). h .meter) (claim .demand2 .written 5 n xs b typed ok .taken m c e p)
 
 afresh : (b buffer : List ℕ) → AllBytes b → sound b ≡ true → before b + count b ≡ 2 ^ 48 → length buffer ≡ 512 → writeCall (rateCode b) (before b) (samplesIn b) buffer .buffer ≡ b
 afresh b buffer bytes s e l = ap (λ (w : Written). w .buffer) (claim .demand2 .afresh b buffer bytes s (le-of-eq e) l)
@@ -262,12 +262,12 @@ module _ (calls : List Call) (typed : Typed calls) where
   own-squares : exactAfter far calls .sq ≡ twoWords (meterAfter far calls .state .sums .sq)
   own-squares = D .same-squares
 
-  -- the last threshold, 2^39, and it raised by 962
+  -- the last threshold, 2^39, and it raised by 2881
   at-most : activity (meterAfter far calls .state .a) 23 ≤ countAt (exactAfter far calls) (2 ^ 39)
   unfolding heldOf listFrom
   at-most = D .at-most 23 (lit< tt)
 
-  at-least : countAt (exactAfter far calls) (2 ^ 39 + 962) ≤ activity (meterAfter far calls .state .a) 23
+  at-least : countAt (exactAfter far calls) (2 ^ 39 + 2881) ≤ activity (meterAfter far calls .state .a) 23
   unfolding heldOf listFrom dOf rowOf rateOf
   at-least = D .at-least 23 (lit< tt)
 
@@ -282,9 +282,9 @@ module _ (calls : List Call) (typed : Typed calls) where
     abbrev r : Report
     r = reportAfter far calls .report
 
-    bounds : Whole (r .levels .active .0) (exactAfter far calls .sq ^ 4096) (countAt (exactAfter far calls) (thresholdOf (heldOf longest) (r .levels .lower)) ^ 4096) (countAt (exactAfter far calls) (thresholdOf (heldOf longest) (r .levels .upper) + 962) ^ 4096)
+    bounds : Whole (r .levels .active .0) (exactAfter far calls .sq ^ 4096) (countAt (exactAfter far calls) (thresholdOf (heldOf longest) (r .levels .lower)) ^ 4096) (countAt (exactAfter far calls) (thresholdOf (heldOf longest) (r .levels .upper) + 2881) ^ 4096)
     unfolding dOf rowOf rateOf
-    bounds = at-sign (heldOf longest) (pos 1) r (exactAfter far calls) 962 (D .levels z)
+    bounds = at-sign (heldOf longest) (pos 1) r (exactAfter far calls) 2881 (D .levels z)
 
     margin-above : leZ (levelOfThreshold (thresholdOf (heldOf longest) (r .levels .lower)) +ℤ pos 1) (r .levels .active .0) ≡ true
     margin-above = D .levels z .at-least-margin
@@ -328,13 +328,18 @@ module _ (m : Meter) (ok : impossible m ≡ false) where
   of-T : levelOf 10000 ≡ some (pos (lev 10000))
   of-T = claim .levels-exist m ok .of-T 10000 (lit≤ tt) (lit≤ tt)
 
-least-I : (i : ℕ) → 16000 ≤ i * 5 → 3200 ≤ i
-unfolding isNamed rowOf rateOf
-least-I = claim .rates 3 refl .i-rule .smallest
+-- of the last rate
+K-lasts : (10 ^ 10 * (2 ^ 20) ^ 1368 ≤ 27182818284 * (2 ^ 20 - 728) ^ 1368) × (27182818285 * (2 ^ 20 - 728) ^ 1512 ≤ 10 ^ 10 * (2 ^ 20) ^ 1512)
+unfolding isNamed rowOf rateOf keepsTime lastsAtLeast lastsAtMost
+K-lasts = let t = and-eq-true-iff _ _ .0 (claim .rates 5 refl .t-rule) in (leb-true _ _ (t .0), leb-true _ _ (t .1))
 
-least-D : (d : ℕ) → 2 ^ 21 ≤ d * 2182 → 962 ≤ d
+least-I : (i : ℕ) → 48000 ≤ i * 5 → 9600 ≤ i
 unfolding isNamed rowOf rateOf
-least-D = claim .rates 3 refl .d-rule .smallest
+least-I = claim .rates 5 refl .i-rule .smallest
+
+least-D : (d : ℕ) → 2 ^ 21 ≤ d * 728 → 2881 ≤ d
+unfolding isNamed rowOf rateOf
+least-D = claim .rates 5 refl .d-rule .smallest
 
 -- the envelope at both ends of K
 slow-and-fast : (I : ℕ) (xs : List ℤ)
@@ -357,15 +362,15 @@ module _ (calls calls′ : List Call) (typed : Typed calls) (typed′ : Typed ca
   T = claim .two-cards 70000 far plain calls calls′ fits typed typed′ (record { opens = far-opens; opens′ = plain-opens; rate = refl; offset = refl; samples = alike })
 
   -- at the last threshold of each
-  never-above : countAt (exactAfter far calls) (2 ^ 38 + 70000 * 2 ^ 24 + 962) ≤ meterCount plain calls′ 14
+  never-above : countAt (exactAfter far calls) (2 ^ 38 + 70000 * 2 ^ 24 + 2881) ≤ meterCount plain calls′ 14
   unfolding builtIn upTo doubled listFrom dOf rowOf rateOf
   never-above = T .first .never-above 14 (lit< tt)
 
-  exchanged : countAt (exactAfter plain calls′) (2 ^ 39 + 70000 * 2 ^ 24 + 962) ≤ meterCount far calls 23
+  exchanged : countAt (exactAfter plain calls′) (2 ^ 39 + 70000 * 2 ^ 24 + 2881) ≤ meterCount far calls 23
   unfolding heldOf listFrom dOf rowOf rateOf
   exchanged = T .exchanged .never-above 23 (lit< tt)
 
-  exceeds-at-most : meterCount far calls 23 + countAt (exactAfter far calls) (2 ^ 38 + 70000 * 2 ^ 24 + 962) ≤ meterCount plain calls′ 14 + countAt (exactAfter far calls) (2 ^ 39)
+  exceeds-at-most : meterCount far calls 23 + countAt (exactAfter far calls) (2 ^ 38 + 70000 * 2 ^ 24 + 2881) ≤ meterCount plain calls′ 14 + countAt (exactAfter far calls) (2 ^ 39)
   unfolding builtIn upTo doubled heldOf listFrom dOf rowOf rateOf
   exceeds-at-most = T .first .exceeds-at-most 23 14 (lit< tt) (lit< tt)
 

@@ -24,9 +24,9 @@ pub record Claim : Type 0 where
   -- "The meter rests on three facts about lev"; and of numbers that have no level, "a report never meets it"
   pub facts : Facts lev
   pub levels-exist : (m : Meter) → impossible m ≡ false → LevelsExist m
-  -- "I is 0.2 s rounded up to samples", and D "is the smallest whole number not below 2^21/K"
+  -- K "keeps T within Table 2's 5 %", "I is 0.2 s rounded up to samples", and D "is the smallest whole number not below 2^21/K"
   pub rates : (code : ℕ) → isNamed code ≡ true → Keeps (rowOf code)
-  -- what such a D, "in the units of P and Q", is a bound of: the envelope's error, for any K that makes a coefficient
+  -- L9: the envelope's error is a fact "about any K from 1 to 2^20, of which the five rates are uses"
   pub envelope : (t : Thresholds) (K I D : ℕ) (o : ℤ) (xs : List ℤ) → 1 ≤ K → K ≤ 2 ^ 20 → Ceiling (2 ^ 21) K D → EnvelopeBound t K I D o xs
   -- L7: "We want this shown for all lengths and all whole d"
   pub two-cards : (d : ℕ) (c c′ : Setting) (calls calls′ : List Call) → TypedOffset c → Typed calls → Typed calls′ → OneLine d c c′ calls calls′

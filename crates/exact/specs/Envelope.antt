@@ -14,7 +14,7 @@ envelopeAfter t K I o xs = stateAfter (record { k = K; i = I; offset = o }) t (f
 abbrev pub exactEnvelopeAfter : (K I : ℕ) (o : ℤ) → List ℤ → Fraction
 exactEnvelopeAfter K I o xs = q (takeAll (startAt 0 K I o) xs)
 
--- Q does not exceed q, and q stays below Q + D
+-- his request L9: "after any samples from a fresh start Q is never above E's q, and less than D below it"
 pub record EnvelopeBound (t : Thresholds) (K I D : ℕ) (o : ℤ) (xs : List ℤ) : Type 0 where
   pub never-above : AtLeast (exactEnvelopeAfter K I o xs) (envelopeAfter t K I o xs)
   pub less-than-D : LessThan (exactEnvelopeAfter K I o xs) (envelopeAfter t K I o xs + D)

@@ -1,6 +1,6 @@
 -- The test of a row, and that a row whose test passes holds. A percentage is never searched for: its law tells it.
 use mathlib.Core.Bool.{Bool, true, not, _&&_, and-eq-true-iff}
-use mathlib.Core.List.{List, [], _∷_}
+use mathlib.Core.List.{List, [], _∷_, _++_}
 use mathlib.Core.Option.{none, some}
 use mathlib.Core.Path.{_≡_, refl, sym, _∙_}
 use Prim.Native.Nat.{ℕ, zero, suc, _+_, _-_, _*_, _^_, _<_}
@@ -11,7 +11,7 @@ use lib.IntN.{ℤ, pos}
 use lib.ListN.{length}
 use Rattle.level.specs.Logarithm.{levelOf}
 use Rattle.rate.specs.declared.Rate.{Rate}
-use Rattle.rate.specs.Rates.{rateOf, rowOf}
+use Rattle.rate.specs.Rates.{rateOf, rowOf, keepsTime}
 use Rattle.block.specs.Refusals.{hostCheck}
 use Rattle.block.specs.Written.{writeCall}
 use Rattle.percent.specs.Percent.{whole, notAbove, percentOf}
@@ -27,7 +27,7 @@ use Rattle.exact.specs.Envelope.{envelopeAfter, exactEnvelopeAfter}
 use Rattle.exact.specs.Exact.{distance}
 use Rattle.exact.specs.TwoCards.{DifferAtMost, sizeAt, Alike, OneLine, raised, meterCount}
 use Rattle.figures.specs.Meters.{padded, countsOf}
-use Rattle.figures.specs.Rows.{Carried, noMeasurement, Shown, nothing, Values, Row, rate, level, noLevel, percent, sampled, reported, refused, opened, handedIn, answered, checked, made, played, counted, needsTwo, cards, needsD, sampledMeter, meterFrom, exactFrom, numbersOf, carriedBy, measurementOf, shownBy, valuesOf, inPlaces, Holds, All}
+use Rattle.figures.specs.Rows.{Carried, noMeasurement, Shown, nothing, Values, Row, rate, timed, level, noLevel, percent, sampled, reported, refused, opened, handedIn, answered, checked, made, played, counted, needsTwo, cards, needsD, sampledMeter, meterFrom, exactFrom, numbersOf, carriedBy, measurementOf, shownBy, valuesOf, inPlaces, Holds, All}
 use Rattle.figures.proofs.Tests.{Test, via, _and_, always, never, is, isNot, unless, atMost, itself, _on_, Equality, sameNumber, sameInteger, sameAnswer, sameList, sameOption}
 
 -- the percentage of a factor, by its law: two logarithms beside lev(10000)
@@ -135,6 +135,7 @@ oneLine d c c′ calls calls′ =
 unfoldable pub testOf : (r : Row) → Test (Holds r)
 unfolding Holds
 testOf (rate code hertz K I D) = sameOption sameRate (rateOf code) (some (rateWith code hertz K I D))
+testOf (timed f K) = is (keepsTime f K)
 testOf (level N v) = sameOption sameInteger (levelOf N) (some (pos v))
 testOf (noLevel N) = sameOption sameInteger (levelOf N) none
 testOf (percent F T) = percentage F T
@@ -204,3 +205,9 @@ sound-table [] e = tt
 sound-table (r ∷ rows) e =
     let h = and-eq-true-iff (test r) (allTrue test rows) .0 e in
     (sound-test r (h .0), sound-table rows (h .1))
+
+-- two tables on end
+pub joined : (rows others : List Row) → All rows → All others → All (rows ++ others)
+unfolding All
+joined [] others a b = b
+joined (r ∷ rows) others a b = (a .0, joined rows others (a .1) b)

@@ -83,9 +83,19 @@ otherWeighted = blockWith 1 1 3 0 three 0 34845
 unfoldable pub otherKind : List ℕ
 otherKind = blockWith 2 1 3 0 three 1 35098
 
--- 7 at code 1, and sound: rate code 2
+-- 7 at code 1, and sound: rate codes 2, 4 and 5
 unfoldable pub otherCode : List ℕ
 otherCode = blockWith 1 2 3 0 three 256 34333
+
+unfoldable pub superWideband : List ℕ
+superWideband = blockWith 1 4 3 0 three 768 33311
+
+unfoldable pub fullBand : List ℕ
+fullBand = blockWith 1 5 3 0 three 1024 32800
+
+-- 7 at every code, and not sound: rate code 6
+unfoldable pub unnamedRate : List ℕ
+unnamedRate = blockWith 1 6 3 0 three 1280 32289
 
 -- 8: no samples, or one more than a block holds
 unfoldable pub noCount : List ℕ

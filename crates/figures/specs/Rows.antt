@@ -1,12 +1,12 @@
 -- Rows of worked figures, and what each kind of row says.
-use mathlib.Core.Bool.{Bool, false}
+use mathlib.Core.Bool.{Bool, true, false}
 use mathlib.Core.List.{List, [], _∷_}
 use mathlib.Core.Option.{none, some}
 use mathlib.Core.Path.{_≡_}
 use Prim.Native.Nat.{ℕ, _+_, _-_, _*_, _^_, _≤_}
 use lib.IntN.{ℤ, pos}
 use Rattle.level.specs.Logarithm.{levelOf}
-use Rattle.rate.specs.Rates.{rateOf, rowOf}
+use Rattle.rate.specs.Rates.{rateOf, rowOf, keepsTime}
 use Rattle.block.specs.Refusals.{hostCheck}
 use Rattle.block.specs.Written.{writeCall}
 use Rattle.percent.specs.Percent.{percentOf}
@@ -70,6 +70,8 @@ pub record Values : Type 0 where
 pub data Row : Type 0 where
   -- a code names the rate with these figures
   rate : (code hertz K I D : ℕ) → Row
+  -- at f samples a second K keeps T within 5 %
+  timed : (f K : ℕ) → Row
   -- lev(N) is v
   level : (N v : ℕ) → Row
   -- N has no level
@@ -180,6 +182,7 @@ inPlaces v =
 
 unfoldable pub Holds : Row → Type 0
 Holds (rate code hertz K I D) = rateOf code ≡ some (record { code = code; hertz = hertz; k = K; i = I; d = D })
+Holds (timed f K) = keepsTime f K ≡ true
 Holds (level N v) = levelOf N ≡ some (pos v)
 Holds (noLevel N) = levelOf N ≡ none
 Holds (percent F T) = percentOf F ≡ T

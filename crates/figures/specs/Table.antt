@@ -11,9 +11,9 @@ use Rattle.setting.specs.Settings.{usualSetting, withMargin as chosenMargin, wi
 use Rattle.meter.specs.declared.Meter.{Meter}
 use Rattle.meter.specs.Calls.{openCall}
 use Rattle.exact.specs.Calls.{Call, chunk, block}
-use Rattle.figures.specs.Blocks.{samplesOfThree, soundBlock, fullBlock, endBlock, twenty, lastBlock, lastFull, exampleBytes, plainBytes, lent, threeBytes, otherSum, highSum, otherWeighted, otherKind, otherCode, noCount, highCount, usedNext, usedLast}
+use Rattle.figures.specs.Blocks.{samplesOfThree, soundBlock, fullBlock, endBlock, twenty, lastBlock, lastFull, exampleBytes, plainBytes, lent, threeBytes, otherSum, highSum, otherWeighted, otherKind, otherCode, superWideband, fullBand, unnamedRate, noCount, highCount, usedNext, usedLast}
 use Rattle.figures.specs.Meters.{placed, offsetBy, marginBy, placedBy, listBy, freshAt, given, plain, withCode, withOffset, withMargin, withThresholds, withList, withN, withS, withSq, withP, withQ, withA, withH}
-use Rattle.figures.specs.Rows.{Values, Row, rate, level, noLevel, percent, sampled, reported, refused, opened, handedIn, answered, checked, made, played, counted, needsTwo, cards, needsD, sampledMeter}
+use Rattle.figures.specs.Rows.{Values, Row, rate, timed, level, noLevel, percent, sampled, reported, refused, opened, handedIn, answered, checked, made, played, counted, needsTwo, cards, needsD, sampledMeter}
 
 -- x at the first k places
 abbrev first : (k x : ℕ) → List ℕ
@@ -175,11 +175,25 @@ faults =
     ∷ chunk (replicate 4096 (pos 0))
     ∷ []
 
-unfoldable pub table : List Row
-table =
+-- Numbers, samples, reports, runs of calls and E
+unfoldable pub measuring : List Row
+measuring =
     rate 1 694 49174 139 43
     ∷ rate 2 8000 4360 1600 481
     ∷ rate 3 16000 2182 3200 962
+    ∷ rate 4 32000 1092 6400 1921
+    ∷ rate 5 48000 728 9600 2881
+    -- T at each rate; and with the least K and the largest that keep it, at the first rate and at the last
+    ∷ timed 694 49174
+    ∷ timed 8000 4360
+    ∷ timed 16000 2182
+    ∷ timed 32000 1092
+    ∷ timed 48000 728
+    ∷ timed 694 48762
+    ∷ timed 694 51139
+    ∷ timed 48000 694
+    ∷ timed 48000 766
+    -- lev, and one sample
     ∷ level 1 0
     ∷ level 2 4096
     ∷ level 3 6492
@@ -244,8 +258,12 @@ table =
     -- the percentages at the ends of 64 bits
     ∷ percent (pos (2 ^ 63 - 1)) 10000
     ∷ percent (minus (2 ^ 63)) 0
-    -- the third rate
+    -- the other rates: a sample at each, and E's counts at the last two
     ∷ sampled (usualSetting 3) (pos 32767 ∷ []) 1143961504 2380489 [] 14
+    ∷ sampled (usualSetting 4) (pos 32767 ∷ []) 572505024 596213 [] 14
+    ∷ sampled (usualSetting 5) (pos 32767 ∷ []) 381670016 264983 [] 14
+    ∷ counted (usualSetting 4) (constant (pos 32767) 40) (threshold 3) 20
+    ∷ counted (usualSetting 5) (constant (pos 32767) 40) (threshold 3) 9
     -- and the largest size the other way
     ∷ played (offsetBy 3 (minus 32768)) (chunk (pos 32767 ∷ []) ∷ []) (record {
       code = 3;
@@ -274,183 +292,6 @@ table =
     ∷ refused (given 1 0 []) 13
     ∷ refused (given (2 ^ 40) (2 ^ 64) []) 14
     ∷ refused (withS (minus 9) (given 16384 (2 ^ 40) (first 8 4096))) 16
-    -- opening
-    ∷ opened (usualSetting 0) 1
-    ∷ opened (usualSetting 1) 0
-    ∷ opened (usualSetting 2) 0
-    ∷ opened (usualSetting 3) 0
-    ∷ opened (usualSetting 4) 1
-    ∷ opened (usualSetting 257) 1
-    ∷ opened (offsetBy 1 (minus 32768)) 0
-    -- the margin: each end of its range and the next number, −1, both ends of 64 bits, and 1 before 17
-    ∷ opened (marginBy 1 (pos 1)) 0
-    ∷ opened (marginBy 1 (pos 22314)) 0
-    ∷ opened (marginBy 1 (pos 0)) 17
-    ∷ opened (marginBy 1 (pos 22315)) 17
-    ∷ opened (marginBy 1 (minus 1)) 17
-    ∷ opened (marginBy 1 (minus (2 ^ 63))) 17
-    ∷ opened (marginBy 1 (pos (2 ^ 63 - 1))) 17
-    ∷ opened (marginBy 4 (pos 0)) 1
-    ∷ opened (marginBy 4 (pos 22315)) 1
-    -- the list: its shortest and a longest, and 19 at a length of 0, 13, 25 and any larger, whatever the entries are, and where something stands past the end
-    ∷ opened (listBy 1 shortest) 0
-    ∷ opened (listBy 1 fine) 0
-    ∷ opened (listBy 1 []) 19
-    ∷ opened (listBy 1 (from 25 13)) 19
-    ∷ opened (listBy 1 (fine ++ ((2 ^ 39 + 1) ∷ []))) 19
-    ∷ opened (placedBy 1 (placed 65534 powers)) 19
-    ∷ opened (placedBy 1 (placed (2 ^ 64 - 1) powers)) 19
-    ∷ opened (placedBy 1 (placed 13 twice)) 19
-    ∷ opened (placedBy 1 (placed 14 powers)) 19
-    ∷ opened (placedBy 1 (placed 15 (powers ++ replicate 8 0 ++ (1 ∷ [])))) 19
-    -- 20: an entry once more, at the first pair and at the last; a lower one; one more than twice the one before, the last entry and the second; zeros within
-    -- the list
-    ∷ opened (listBy 1 twice) 20
-    ∷ opened (listBy 1 (shortest ++ (2 ^ 37 ∷ []))) 20
-    ∷ opened (listBy 1 (from 24 8 ++ from 30 8)) 20
-    ∷ opened (listBy 1 wide) 20
-    ∷ opened (listBy 1 (2 ^ 24 ∷ (2 ^ 25 + 1) ∷ from 26 12)) 20
-    ∷ opened (listBy 1 (powers ++ replicate 9 0)) 20
-    ∷ opened (listBy 1 (replicate 14 0)) 20
-    -- 21: each end of the range of the first and of the last, and the next number past it; doubling does not wrap
-    ∷ opened (listBy 1 (from 22 16)) 0
-    ∷ opened (listBy 1 (from 24 16)) 0
-    ∷ opened (listBy 1 ((2 ^ 22 - 1) ∷ from 22 16)) 21
-    ∷ opened (listBy 1 ((2 ^ 24 + 1) ∷ from 25 13)) 21
-    ∷ opened (listBy 1 (from 24 13 ++ ((2 ^ 37 - 1) ∷ []))) 21
-    ∷ opened (listBy 1 (from 24 16 ++ ((2 ^ 39 + 1) ∷ []))) 21
-    ∷ opened (listBy 1 wrapping) 21
-    -- the order: 1 before 17 before 19 before 20 before 21
-    ∷ opened (chosenMargin (pos 0) (listBy 4 [])) 1
-    ∷ opened (chosenMargin (pos 0) (listBy 1 [])) 17
-    ∷ opened (listBy 1 (2 ^ 62 ∷ 2 ^ 62 ∷ from 24 11)) 19
-    ∷ opened (listBy 1 (2 ^ 62 ∷ 2 ^ 62 ∷ from 24 12)) 20
-    -- a refused opening keeps no list
-    ∷ played (listBy 1 wide) [] zeros
-    -- an opening keeps its list, and its margin
-    ∷ played (listBy 3 shortest) [] (freshValues 3 (pos 21635) shortest 3200)
-    ∷ played (marginBy 3 (pos 1)) [] (freshValues 3 (pos 1) powers 3200)
-    -- a refused one keeps nothing, neither the offset nor the margin
-    ∷ played (marginBy 1 (pos 22315)) [] zeros
-    ∷ played (offsetBy 4 (pos 5)) [] zeros
-    -- refusal 2: the code, and the meter beside a refused opening
-    ∷ handedIn plain 0
-    ∷ handedIn (withCode 0 plain) 2
-    ∷ handedIn (withCode 4 plain) 2
-    ∷ handedIn (withCode 257 plain) 2
-    ∷ handedIn (openCall (usualSetting 4) .meter) 2
-    -- the margin
-    ∷ handedIn (withMargin (pos 1) plain) 0
-    ∷ handedIn (withMargin (pos 22314) plain) 0
-    ∷ handedIn (withMargin (pos 0) plain) 2
-    ∷ handedIn (withMargin (pos 22315) plain) 2
-    ∷ handedIn (withMargin (minus 1) plain) 2
-    ∷ handedIn (withMargin (minus (2 ^ 63)) plain) 2
-    ∷ handedIn (withMargin (pos (2 ^ 63 - 1)) plain) 2
-    -- a list that would not load, for each rule
-    ∷ handedIn (withList shortest plain) 0
-    ∷ handedIn (withList fine plain) 0
-    ∷ handedIn (withList [] plain) 2
-    ∷ handedIn (withList (from 25 13) plain) 2
-    ∷ handedIn (withThresholds (placed 25 fine) plain) 2
-    ∷ handedIn (withThresholds (placed (2 ^ 64 - 1) powers) plain) 2
-    ∷ handedIn (withThresholds (placed 14 powers) plain) 2
-    ∷ handedIn (withThresholds (placed 15 (powers ++ replicate 8 0 ++ (1 ∷ []))) plain) 2
-    ∷ handedIn (withList twice plain) 2
-    ∷ handedIn (withList (shortest ++ (2 ^ 37 ∷ [])) plain) 2
-    ∷ handedIn (withList wide plain) 2
-    ∷ handedIn (withList ((2 ^ 22 - 1) ∷ from 22 16) plain) 2
-    ∷ handedIn (withList ((2 ^ 24 + 1) ∷ from 25 13) plain) 2
-    ∷ handedIn (withList (from 24 13 ++ ((2 ^ 37 - 1) ∷ [])) plain) 2
-    ∷ handedIn (withList (from 24 16 ++ ((2 ^ 39 + 1) ∷ [])) plain) 2
-    ∷ handedIn (withList wrapping plain) 2
-    -- n > 2^48
-    ∷ handedIn (withN (2 ^ 48) plain) 0
-    ∷ handedIn (withN (2 ^ 48 + 1) plain) 2
-    -- |s| > n·2^15
-    ∷ handedIn (withS (pos (1000 * 2 ^ 15)) plain) 0
-    ∷ handedIn (withS (pos (1000 * 2 ^ 15 + 1)) plain) 2
-    ∷ handedIn (withS (minus (1000 * 2 ^ 15)) plain) 0
-    ∷ handedIn (withS (minus (1000 * 2 ^ 15 + 1)) plain) 2
-    ∷ handedIn (withS (minus (2 ^ 63)) (withN (2 ^ 48) plain)) 0
-    ∷ handedIn (withS (minus (2 ^ 63)) (withN (2 ^ 48 - 1) plain)) 2
-    -- sq > n·2^32
-    ∷ handedIn (withSq 0 (1000 * 2 ^ 32) plain) 0
-    ∷ handedIn (withSq 0 (1000 * 2 ^ 32 + 1) plain) 2
-    ∷ handedIn (withSq 0 (2 ^ 64 - 1) (withN (2 ^ 32) plain)) 0
-    ∷ handedIn (withSq 1 0 (withN (2 ^ 32) plain)) 0
-    ∷ handedIn (withSq 1 1 (withN (2 ^ 32) plain)) 2
-    ∷ handedIn (withSq 1 0 (withN (2 ^ 32 - 1) plain)) 2
-    ∷ handedIn (withSq (2 ^ 16) 0 (withN (2 ^ 48) plain)) 0
-    ∷ handedIn (withSq (2 ^ 16) 1 (withN (2 ^ 48) plain)) 2
-    -- P or Q > 2^40
-    ∷ handedIn (withP (2 ^ 40) plain) 0
-    ∷ handedIn (withP (2 ^ 40 + 1) plain) 2
-    ∷ handedIn (withQ (2 ^ 40) plain) 0
-    ∷ handedIn (withQ (2 ^ 40 + 1) plain) 2
-    -- of the offset nothing is said, and no bound depends on it
-    ∷ handedIn (withOffset (pos 32767) (withSq 0 (1000 * 2 ^ 32) plain)) 0
-    ∷ handedIn (withOffset (minus 32768) (withP (2 ^ 40) plain)) 0
-    ∷ handedIn (withOffset (minus 32768) (withSq 0 (1000 * 2 ^ 32 + 1) plain)) 2
-    -- an h_j > I: from the middle on, the last alone, and at the other rates
-    ∷ handedIn (withH (replicate 7 0 ++ replicate 8 1600) plain) 0
-    ∷ handedIn (withH (replicate 7 0 ++ replicate 8 1601) plain) 2
-    ∷ handedIn (withH (replicate 14 1600 ++ (1601 ∷ [])) plain) 2
-    ∷ handedIn (withH (replicate 15 139) (withCode 1 plain)) 0
-    ∷ handedIn (withH (replicate 14 139 ++ (140 ∷ [])) (withCode 1 plain)) 2
-    ∷ handedIn (withH (replicate 15 3200) (withCode 3 plain)) 0
-    ∷ handedIn (withH (replicate 14 3200 ++ (3201 ∷ [])) (withCode 3 plain)) 2
-    -- an a_j > n: the first alone, and up to the middle
-    ∷ handedIn (withA (first 15 1000) plain) 0
-    ∷ handedIn (withA (first 1 1001) plain) 2
-    ∷ handedIn (withA (first 8 1001) plain) 2
-    -- a_j rising with j: at the first pair, in the middle, and at the last
-    ∷ handedIn (withA (5 ∷ replicate 14 6) plain) 2
-    ∷ handedIn (withA (replicate 7 5 ++ replicate 8 6) plain) 2
-    ∷ handedIn (withA (replicate 14 5 ++ (6 ∷ [])) plain) 2
-    -- h_j falling with j: at the first pair, in the middle, and at the last
-    ∷ handedIn (withH (6 ∷ replicate 14 5) plain) 2
-    ∷ handedIn (withH (replicate 7 6 ++ replicate 8 5) plain) 2
-    ∷ handedIn (withH (replicate 14 6 ++ (5 ∷ [])) plain) 2
-    -- past the end of the list: an a_j or an h_j that is not zero, the first such place and the last; within it neighbours are compared to its end
-    ∷ handedIn (withA (replicate 15 5 ++ (1 ∷ [])) plain) 2
-    ∷ handedIn (withA (replicate 23 0 ++ (1 ∷ [])) plain) 2
-    ∷ handedIn (withH (replicate 15 5 ++ (5 ∷ [])) plain) 2
-    ∷ handedIn (withH (replicate 23 0 ++ (1 ∷ [])) plain) 2
-    ∷ handedIn (withList shortest (withA (replicate 14 5) plain)) 0
-    ∷ handedIn (withList shortest (withA (replicate 15 5) plain)) 2
-    ∷ handedIn (withList shortest (withH (replicate 14 1600) plain)) 0
-    ∷ handedIn (withList shortest (withH (replicate 15 1600) plain)) 2
-    ∷ handedIn (withList fine (withA (replicate 24 5) plain)) 0
-    ∷ handedIn (withList fine (withA (replicate 23 5 ++ (6 ∷ [])) plain)) 2
-    ∷ handedIn (withList fine (withH (replicate 24 1600) plain)) 0
-    ∷ handedIn (withList fine (withH (replicate 23 6 ++ (5 ∷ [])) plain)) 2
-    ∷ handedIn (withList fine (withH (replicate 23 1600 ++ (1601 ∷ [])) plain)) 2
-    -- the refusals of calls
-    ∷ answered (freshAt 1) faults (3 ∷ 4 ∷ 5 ∷ 5 ∷ 5 ∷ 6 ∷ 7 ∷ 8 ∷ 8 ∷ 9 ∷ 9 ∷ 10 ∷ 0 ∷ 10 ∷ 0 ∷ [])
-    ∷ answered (withCode 0 plain) (chunk (replicate 4097 (pos 0)) ∷ block threeBytes ∷ []) (2 ∷ 2 ∷ [])
-    ∷ answered (withList [] plain) (chunk (replicate 4097 (pos 0)) ∷ block threeBytes ∷ []) (2 ∷ 2 ∷ [])
-    ∷ answered (withMargin (pos 0) plain) (chunk (replicate 4097 (pos 0)) ∷ block threeBytes ∷ []) (2 ∷ 2 ∷ [])
-    ∷ answered (withN (2 ^ 48 - 1) plain) (chunk (pos 1 ∷ pos 1 ∷ []) ∷ chunk (pos 1 ∷ []) ∷ chunk (pos 1 ∷ []) ∷ []) (11 ∷ 0 ∷ 11 ∷ [])
-    ∷ answered (withCode 1 (withN (2 ^ 48) plain)) (chunk (replicate 4097 (pos 0)) ∷ block soundBlock ∷ block endBlock ∷ []) (3 ∷ 10 ∷ 11 ∷ [])
-    -- the line host's check
-    ∷ checked soundBlock 1 0
-    ∷ checked fullBlock 1 0
-    ∷ checked endBlock 1 0
-    ∷ checked otherCode 2 0
-    ∷ checked soundBlock 4 1
-    ∷ checked threeBytes 0 1
-    ∷ checked threeBytes 1 4
-    ∷ checked otherSum 1 5
-    ∷ checked highSum 1 5
-    ∷ checked otherWeighted 1 5
-    ∷ checked otherKind 1 6
-    ∷ checked otherCode 1 7
-    ∷ checked soundBlock 2 7
-    ∷ checked noCount 1 8
-    ∷ checked highCount 1 8
-    ∷ checked usedNext 1 9
-    ∷ checked usedLast 1 9
     -- Q reaches 2^30 exactly: ≥ against >
     ∷ sampled (usualSetting 1) (pos 9126 ∷ pos 11705 ∷ []) 16052775414 (2 ^ 30) (replicate 5 2 ++ (1 ∷ 1 ∷ replicate 8 0)) 16
     -- two crossings: the highest is used
@@ -542,6 +383,8 @@ table =
     ∷ cards 3 (offsetBy 1 (pos 300)) fineCard run mirrored 20 (4099 * 2 ^ 24 + 43) 228 229
     -- 400 apart at code 2, where the first has the largest size there is
     ∷ cards 400 (offsetBy 2 (minus 32768)) (offsetBy 2 (minus 32768)) (constant (pos 32767) 40) (constant (pos 32367) 40) 8 (656 * 2 ^ 24 + 481) 5 19
+    -- and 1 apart at code 5
+    ∷ cards 1 (usualSetting 5) (usualSetting 5) (constant (pos 32767) 40) (constant (pos 32766) 40) 3 (9 * 2 ^ 24 + 2881) 7 9
     -- d − 1 intervals would not do: at c_0 raised by D alone E counts 6 for the first, and the second meter counts 0
     ∷ cards 1 (usualSetting 1) (usualSetting 1) (constant (pos 2) 40) (constant (pos 1) 40) 0 (2 ^ 25 + 43) 0 0
     ∷ counted (usualSetting 1) (constant (pos 2) 40) (2 ^ 24 + 43) 6
@@ -551,18 +394,215 @@ table =
     -- nor, between the meters alone, where 2^j is d − 1: the first counts 3 at c_1, and the second 0 at c_0
     ∷ cards 2 (usualSetting 1) (usualSetting 1) (constant (pos 3) 50) (constant (pos 1) 50) 0 (3 * 2 ^ 24 + 43) 0 0
     ∷ sampled (usualSetting 1) (replicate 50 (pos 3)) 45772777 35083161 (26 ∷ 3 ∷ replicate 13 0) 15
+    ∷ []
+
+-- Opening, refusal 2, the refusals of calls, the line host's check, and blocks made
+unfoldable pub refusing : List Row
+refusing =
+    opened (usualSetting 0) 1
+    ∷ opened (usualSetting 1) 0
+    ∷ opened (usualSetting 2) 0
+    ∷ opened (usualSetting 3) 0
+    ∷ opened (usualSetting 4) 0
+    ∷ opened (usualSetting 5) 0
+    ∷ opened (usualSetting 6) 1
+    ∷ opened (usualSetting 257) 1
+    ∷ opened (offsetBy 1 (minus 32768)) 0
+    -- the margin: each end of its range and the next number, −1, both ends of 64 bits, and 1 before 17
+    ∷ opened (marginBy 1 (pos 1)) 0
+    ∷ opened (marginBy 1 (pos 22314)) 0
+    ∷ opened (marginBy 1 (pos 0)) 17
+    ∷ opened (marginBy 1 (pos 22315)) 17
+    ∷ opened (marginBy 1 (minus 1)) 17
+    ∷ opened (marginBy 1 (minus (2 ^ 63))) 17
+    ∷ opened (marginBy 1 (pos (2 ^ 63 - 1))) 17
+    ∷ opened (marginBy 6 (pos 0)) 1
+    ∷ opened (marginBy 6 (pos 22315)) 1
+    -- the list: its shortest and a longest, and 19 at a length of 0, 13, 25 and any larger, whatever the entries are, and where something stands past the end
+    ∷ opened (listBy 1 shortest) 0
+    ∷ opened (listBy 1 fine) 0
+    ∷ opened (listBy 1 []) 19
+    ∷ opened (listBy 1 (from 25 13)) 19
+    ∷ opened (listBy 1 (fine ++ ((2 ^ 39 + 1) ∷ []))) 19
+    ∷ opened (placedBy 1 (placed 65534 powers)) 19
+    ∷ opened (placedBy 1 (placed (2 ^ 64 - 1) powers)) 19
+    ∷ opened (placedBy 1 (placed 13 twice)) 19
+    ∷ opened (placedBy 1 (placed 14 powers)) 19
+    ∷ opened (placedBy 1 (placed 15 (powers ++ replicate 8 0 ++ (1 ∷ [])))) 19
+    -- 20: an entry once more, at the first pair and at the last; a lower one; one more than twice the one before, the last entry and the second; zeros within
+    -- the list
+    ∷ opened (listBy 1 twice) 20
+    ∷ opened (listBy 1 (shortest ++ (2 ^ 37 ∷ []))) 20
+    ∷ opened (listBy 1 (from 24 8 ++ from 30 8)) 20
+    ∷ opened (listBy 1 wide) 20
+    ∷ opened (listBy 1 (2 ^ 24 ∷ (2 ^ 25 + 1) ∷ from 26 12)) 20
+    ∷ opened (listBy 1 (powers ++ replicate 9 0)) 20
+    ∷ opened (listBy 1 (replicate 14 0)) 20
+    -- 21: each end of the range of the first and of the last, and the next number past it; doubling does not wrap
+    ∷ opened (listBy 1 (from 22 16)) 0
+    ∷ opened (listBy 1 (from 24 16)) 0
+    ∷ opened (listBy 1 ((2 ^ 22 - 1) ∷ from 22 16)) 21
+    ∷ opened (listBy 1 ((2 ^ 24 + 1) ∷ from 25 13)) 21
+    ∷ opened (listBy 1 (from 24 13 ++ ((2 ^ 37 - 1) ∷ []))) 21
+    ∷ opened (listBy 1 (from 24 16 ++ ((2 ^ 39 + 1) ∷ []))) 21
+    ∷ opened (listBy 1 wrapping) 21
+    -- the order: 1 before 17 before 19 before 20 before 21
+    ∷ opened (chosenMargin (pos 0) (listBy 6 [])) 1
+    ∷ opened (chosenMargin (pos 0) (listBy 1 [])) 17
+    ∷ opened (listBy 1 (2 ^ 62 ∷ 2 ^ 62 ∷ from 24 11)) 19
+    ∷ opened (listBy 1 (2 ^ 62 ∷ 2 ^ 62 ∷ from 24 12)) 20
+    -- a refused opening keeps no list
+    ∷ played (listBy 1 wide) [] zeros
+    -- an opening keeps its list, and its margin
+    ∷ played (listBy 3 shortest) [] (freshValues 3 (pos 21635) shortest 3200)
+    ∷ played (marginBy 3 (pos 1)) [] (freshValues 3 (pos 1) powers 3200)
+    ∷ played (marginBy 4 (pos 1)) [] (freshValues 4 (pos 1) powers 6400)
+    ∷ played (listBy 5 fine) [] (freshValues 5 (pos 21635) fine 9600)
+    -- a refused one keeps nothing, neither the offset nor the margin
+    ∷ played (marginBy 1 (pos 22315)) [] zeros
+    ∷ played (offsetBy 6 (pos 5)) [] zeros
+    -- refusal 2: the code, and the meter beside a refused opening
+    ∷ handedIn plain 0
+    ∷ handedIn (withCode 0 plain) 2
+    ∷ handedIn (withCode 6 plain) 2
+    ∷ handedIn (withCode 257 plain) 2
+    ∷ handedIn (openCall (usualSetting 6) .meter) 2
+    -- the margin
+    ∷ handedIn (withMargin (pos 1) plain) 0
+    ∷ handedIn (withMargin (pos 22314) plain) 0
+    ∷ handedIn (withMargin (pos 0) plain) 2
+    ∷ handedIn (withMargin (pos 22315) plain) 2
+    ∷ handedIn (withMargin (minus 1) plain) 2
+    ∷ handedIn (withMargin (minus (2 ^ 63)) plain) 2
+    ∷ handedIn (withMargin (pos (2 ^ 63 - 1)) plain) 2
+    -- a list that would not load, for each rule
+    ∷ handedIn (withList shortest plain) 0
+    ∷ handedIn (withList fine plain) 0
+    ∷ handedIn (withList [] plain) 2
+    ∷ handedIn (withList (from 25 13) plain) 2
+    ∷ handedIn (withThresholds (placed 25 fine) plain) 2
+    ∷ handedIn (withThresholds (placed (2 ^ 64 - 1) powers) plain) 2
+    ∷ handedIn (withThresholds (placed 14 powers) plain) 2
+    ∷ handedIn (withThresholds (placed 15 (powers ++ replicate 8 0 ++ (1 ∷ []))) plain) 2
+    ∷ handedIn (withList twice plain) 2
+    ∷ handedIn (withList (shortest ++ (2 ^ 37 ∷ [])) plain) 2
+    ∷ handedIn (withList wide plain) 2
+    ∷ handedIn (withList ((2 ^ 22 - 1) ∷ from 22 16) plain) 2
+    ∷ handedIn (withList ((2 ^ 24 + 1) ∷ from 25 13) plain) 2
+    ∷ handedIn (withList (from 24 13 ++ ((2 ^ 37 - 1) ∷ [])) plain) 2
+    ∷ handedIn (withList (from 24 16 ++ ((2 ^ 39 + 1) ∷ [])) plain) 2
+    ∷ handedIn (withList wrapping plain) 2
+    -- n > 2^48
+    ∷ handedIn (withN (2 ^ 48) plain) 0
+    ∷ handedIn (withN (2 ^ 48 + 1) plain) 2
+    -- |s| > n·2^15
+    ∷ handedIn (withS (pos (1000 * 2 ^ 15)) plain) 0
+    ∷ handedIn (withS (pos (1000 * 2 ^ 15 + 1)) plain) 2
+    ∷ handedIn (withS (minus (1000 * 2 ^ 15)) plain) 0
+    ∷ handedIn (withS (minus (1000 * 2 ^ 15 + 1)) plain) 2
+    ∷ handedIn (withS (minus (2 ^ 63)) (withN (2 ^ 48) plain)) 0
+    ∷ handedIn (withS (minus (2 ^ 63)) (withN (2 ^ 48 - 1) plain)) 2
+    -- sq > n·2^32
+    ∷ handedIn (withSq 0 (1000 * 2 ^ 32) plain) 0
+    ∷ handedIn (withSq 0 (1000 * 2 ^ 32 + 1) plain) 2
+    ∷ handedIn (withSq 0 (2 ^ 64 - 1) (withN (2 ^ 32) plain)) 0
+    ∷ handedIn (withSq 1 0 (withN (2 ^ 32) plain)) 0
+    ∷ handedIn (withSq 1 1 (withN (2 ^ 32) plain)) 2
+    ∷ handedIn (withSq 1 0 (withN (2 ^ 32 - 1) plain)) 2
+    ∷ handedIn (withSq (2 ^ 16) 0 (withN (2 ^ 48) plain)) 0
+    ∷ handedIn (withSq (2 ^ 16) 1 (withN (2 ^ 48) plain)) 2
+    -- P or Q > 2^40
+    ∷ handedIn (withP (2 ^ 40) plain) 0
+    ∷ handedIn (withP (2 ^ 40 + 1) plain) 2
+    ∷ handedIn (withQ (2 ^ 40) plain) 0
+    ∷ handedIn (withQ (2 ^ 40 + 1) plain) 2
+    -- of the offset nothing is said, and no bound depends on it
+    ∷ handedIn (withOffset (pos 32767) (withSq 0 (1000 * 2 ^ 32) plain)) 0
+    ∷ handedIn (withOffset (minus 32768) (withP (2 ^ 40) plain)) 0
+    ∷ handedIn (withOffset (minus 32768) (withSq 0 (1000 * 2 ^ 32 + 1) plain)) 2
+    -- an h_j > I: from the middle on, the last alone, and at the other rates
+    ∷ handedIn (withH (replicate 7 0 ++ replicate 8 1600) plain) 0
+    ∷ handedIn (withH (replicate 7 0 ++ replicate 8 1601) plain) 2
+    ∷ handedIn (withH (replicate 14 1600 ++ (1601 ∷ [])) plain) 2
+    ∷ handedIn (withH (replicate 15 139) (withCode 1 plain)) 0
+    ∷ handedIn (withH (replicate 14 139 ++ (140 ∷ [])) (withCode 1 plain)) 2
+    ∷ handedIn (withH (replicate 15 3200) (withCode 3 plain)) 0
+    ∷ handedIn (withH (replicate 14 3200 ++ (3201 ∷ [])) (withCode 3 plain)) 2
+    ∷ handedIn (withH (replicate 15 6400) (withCode 4 plain)) 0
+    ∷ handedIn (withH (replicate 14 6400 ++ (6401 ∷ [])) (withCode 4 plain)) 2
+    ∷ handedIn (withH (replicate 15 9600) (withCode 5 plain)) 0
+    ∷ handedIn (withH (replicate 14 9600 ++ (9601 ∷ [])) (withCode 5 plain)) 2
+    -- an a_j > n: the first alone, and up to the middle
+    ∷ handedIn (withA (first 15 1000) plain) 0
+    ∷ handedIn (withA (first 1 1001) plain) 2
+    ∷ handedIn (withA (first 8 1001) plain) 2
+    -- a_j rising with j: at the first pair, in the middle, and at the last
+    ∷ handedIn (withA (5 ∷ replicate 14 6) plain) 2
+    ∷ handedIn (withA (replicate 7 5 ++ replicate 8 6) plain) 2
+    ∷ handedIn (withA (replicate 14 5 ++ (6 ∷ [])) plain) 2
+    -- h_j falling with j: at the first pair, in the middle, and at the last
+    ∷ handedIn (withH (6 ∷ replicate 14 5) plain) 2
+    ∷ handedIn (withH (replicate 7 6 ++ replicate 8 5) plain) 2
+    ∷ handedIn (withH (replicate 14 6 ++ (5 ∷ [])) plain) 2
+    -- past the end of the list: an a_j or an h_j that is not zero, the first such place and the last; within it neighbours are compared to its end
+    ∷ handedIn (withA (replicate 15 5 ++ (1 ∷ [])) plain) 2
+    ∷ handedIn (withA (replicate 23 0 ++ (1 ∷ [])) plain) 2
+    ∷ handedIn (withH (replicate 15 5 ++ (5 ∷ [])) plain) 2
+    ∷ handedIn (withH (replicate 23 0 ++ (1 ∷ [])) plain) 2
+    ∷ handedIn (withList shortest (withA (replicate 14 5) plain)) 0
+    ∷ handedIn (withList shortest (withA (replicate 15 5) plain)) 2
+    ∷ handedIn (withList shortest (withH (replicate 14 1600) plain)) 0
+    ∷ handedIn (withList shortest (withH (replicate 15 1600) plain)) 2
+    ∷ handedIn (withList fine (withA (replicate 24 5) plain)) 0
+    ∷ handedIn (withList fine (withA (replicate 23 5 ++ (6 ∷ [])) plain)) 2
+    ∷ handedIn (withList fine (withH (replicate 24 1600) plain)) 0
+    ∷ handedIn (withList fine (withH (replicate 23 6 ++ (5 ∷ [])) plain)) 2
+    ∷ handedIn (withList fine (withH (replicate 23 1600 ++ (1601 ∷ [])) plain)) 2
+    -- the refusals of calls
+    ∷ answered (freshAt 1) faults (3 ∷ 4 ∷ 5 ∷ 5 ∷ 5 ∷ 6 ∷ 7 ∷ 8 ∷ 8 ∷ 9 ∷ 9 ∷ 10 ∷ 0 ∷ 10 ∷ 0 ∷ [])
+    ∷ answered (freshAt 4) (block fullBand ∷ block unnamedRate ∷ block superWideband ∷ []) (7 ∷ 7 ∷ 0 ∷ [])
+    ∷ answered (freshAt 5) (block superWideband ∷ block unnamedRate ∷ block fullBand ∷ []) (7 ∷ 7 ∷ 0 ∷ [])
+    ∷ answered (withCode 0 plain) (chunk (replicate 4097 (pos 0)) ∷ block threeBytes ∷ []) (2 ∷ 2 ∷ [])
+    ∷ answered (withList [] plain) (chunk (replicate 4097 (pos 0)) ∷ block threeBytes ∷ []) (2 ∷ 2 ∷ [])
+    ∷ answered (withMargin (pos 0) plain) (chunk (replicate 4097 (pos 0)) ∷ block threeBytes ∷ []) (2 ∷ 2 ∷ [])
+    ∷ answered (withN (2 ^ 48 - 1) plain) (chunk (pos 1 ∷ pos 1 ∷ []) ∷ chunk (pos 1 ∷ []) ∷ chunk (pos 1 ∷ []) ∷ []) (11 ∷ 0 ∷ 11 ∷ [])
+    ∷ answered (withCode 1 (withN (2 ^ 48) plain)) (chunk (replicate 4097 (pos 0)) ∷ block soundBlock ∷ block endBlock ∷ []) (3 ∷ 10 ∷ 11 ∷ [])
+    -- the line host's check
+    ∷ checked soundBlock 1 0
+    ∷ checked fullBlock 1 0
+    ∷ checked endBlock 1 0
+    ∷ checked otherCode 2 0
+    ∷ checked superWideband 4 0
+    ∷ checked fullBand 5 0
+    ∷ checked unnamedRate 6 1
+    ∷ checked threeBytes 0 1
+    ∷ checked threeBytes 1 4
+    ∷ checked otherSum 1 5
+    ∷ checked highSum 1 5
+    ∷ checked otherWeighted 1 5
+    ∷ checked otherKind 1 6
+    ∷ checked otherCode 1 7
+    ∷ checked soundBlock 2 7
+    ∷ checked superWideband 5 7
+    ∷ checked unnamedRate 5 7
+    ∷ checked noCount 1 8
+    ∷ checked highCount 1 8
+    ∷ checked usedNext 1 9
+    ∷ checked usedLast 1 9
     -- blocks made: byte for byte, with a check word of 0, at another rate, full, over another block, and ending at 2^48 with one sample and with 248
     ∷ made 1 0 (pos 32767 ∷ []) (lent 512) 0 exampleBytes
     ∷ made 3 6618611909121 (pos 258 ∷ minus 2 ∷ []) (lent 512) 0 plainBytes
     ∷ made 1 0 samplesOfThree (lent 512) 0 soundBlock
     ∷ made 2 0 samplesOfThree (lent 512) 0 otherCode
+    ∷ made 4 0 samplesOfThree (lent 512) 0 superWideband
+    ∷ made 5 0 samplesOfThree (lent 512) 0 fullBand
     ∷ made 1 0 (replicate 248 (pos 1)) (lent 512) 0 fullBlock
     ∷ made 1 40 (replicate 20 (minus 32768)) fullBlock 0 twenty
     ∷ made 1 (2 ^ 48 - 1) (pos 1 ∷ []) (lent 512) 0 lastBlock
     ∷ made 1 (2 ^ 48 - 248) (replicate 248 (pos 1)) (lent 512) 0 lastFull
     -- and refused: 1 before 4 and 18, 4 before 18, and 18 at each of its edges, where the sum would wrap at 2^64 too
     ∷ made 0 0 [] (lent 3) 1 (lent 3)
-    ∷ made 4 0 (pos 1 ∷ []) (lent 512) 1 (lent 512)
+    ∷ made 6 0 (pos 1 ∷ []) (lent 512) 1 (lent 512)
     ∷ made 257 0 (pos 1 ∷ []) (lent 512) 1 (lent 512)
     ∷ made 1 0 [] (lent 511) 4 (lent 511)
     ∷ made 1 0 (pos 1 ∷ []) (lent 513) 4 (lent 513)
@@ -574,11 +614,32 @@ table =
     ∷ made 1 (2 ^ 64 - 1) (pos 1 ∷ []) (lent 512) 18 (lent 512)
     ∷ []
 
+unfoldable pub table : List Row
+table = measuring ++ refusing
+
 -- Rows that do not hold: those of the table with a value, a word or a number another, one or more of each kind. In the order of the table.
 unfoldable pub wrong : List Row
 wrong =
     rate 1 693 49174 139 43
     ∷ rate 2 8000 4360 1600 480
+    -- K of the last rate at the one before, and an I one too few
+    ∷ rate 4 32000 728 6400 1921
+    ∷ rate 5 48000 728 9599 2881
+    -- a K 6 % off, either way; and those just past the least and the largest that keep T
+    ∷ timed 694 46224
+    ∷ timed 694 52124
+    ∷ timed 8000 4098
+    ∷ timed 8000 4622
+    ∷ timed 16000 2051
+    ∷ timed 16000 2313
+    ∷ timed 32000 1026
+    ∷ timed 32000 1158
+    ∷ timed 48000 684
+    ∷ timed 48000 772
+    ∷ timed 694 48761
+    ∷ timed 694 51140
+    ∷ timed 48000 693
+    ∷ timed 48000 767
     ∷ level 10 13607
     ∷ sampled (usualSetting 2) (pos 32767 ∷ []) 2285825920 9504510 [] 14
     ∷ percent (minus 54426) 0
@@ -589,14 +650,6 @@ wrong =
     -- lev from 30 places; a number in its range without a level
     ∷ level 4407622486 131224
     ∷ noLevel 1
-    ∷ opened (usualSetting 4) 0
-    ∷ played (marginBy 3 (pos 2)) [] (freshValues 3 (pos 1) powers 3200)
-    -- a refused opening that keeps its margin
-    ∷ played (marginBy 1 (pos 22315)) [] (zerosBut (pos 22315))
-    ∷ handedIn (withQ (2 ^ 40 + 1) plain) 0
-    -- the second of two equal blocks is accepted
-    ∷ answered (freshAt 1) (block soundBlock ∷ block soundBlock ∷ []) (0 ∷ 0 ∷ [])
-    ∷ checked soundBlock 2 0
     -- Q > c_j for Q ≥ c_j
     ∷ sampled (usualSetting 1) (pos 9126 ∷ pos 11705 ∷ []) 16052775414 (2 ^ 30) (replicate 5 2 ++ (1 ∷ 0 ∷ replicate 8 0)) 16
     -- the lower of two crossings, the second highest of three, and a change of sign upwards
@@ -618,6 +671,16 @@ wrong =
     -- E counts one more there, and cards that are 3 apart said to be 2 apart
     ∷ cards 3 (offsetBy 1 (pos 300)) otherCard run mirrored 12 (4099 * 2 ^ 24 + 43) 229 229
     ∷ cards 2 (offsetBy 1 (pos 300)) otherCard run mirrored 12 (4098 * 2 ^ 24 + 43) 228 229
+    ∷ opened (usualSetting 6) 0
+    ∷ played (marginBy 3 (pos 2)) [] (freshValues 3 (pos 1) powers 3200)
+    -- a refused opening that keeps its margin
+    ∷ played (marginBy 1 (pos 22315)) [] (zerosBut (pos 22315))
+    ∷ handedIn (withQ (2 ^ 40 + 1) plain) 0
+    -- the second of two equal blocks is accepted
+    ∷ answered (freshAt 1) (block soundBlock ∷ block soundBlock ∷ []) (0 ∷ 0 ∷ [])
+    ∷ checked soundBlock 2 0
+    -- the last rate unknown to the host's check
+    ∷ checked fullBand 5 1
     -- the check words in each other's place, and another number
     ∷ made 1 0 (pos 32767 ∷ []) (lent 512) 0 (take 508 exampleBytes ++ (127 ∷ 255 ∷ 1 ∷ 129 ∷ []))
     ∷ made 1 0 [] (lent 512) 4 (lent 512)

@@ -2,15 +2,15 @@
 use mathlib.Core.Bool.{Bool, true, false, cond}
 use mathlib.Core.Option.{Option, none, some, Option·getD}
 use mathlib.Core.Path.{_≡_, refl, sym, ap, subst, _∙_}
-use Prim.Native.Nat.{ℕ, _+_, _*_, _^_, _≤_, _<_}
+use Prim.Native.Nat.{ℕ, _+_, _-_, _*_, _^_, _≤_, _<_}
 use native.Mathlib.Omega.{arith}
-use native.Mathlib.Nat.{lt-of-not-le, not-le-of-lt, mul-le-mul-right}
-use borrow.Author.Tests.{eqb-true}
-use lib.Dec.{T, eqb}
+use native.Mathlib.Nat.{lt-of-not-le, not-le-of-lt, mul-le-mul-right, one-le-pow}
+use borrow.Author.Tests.{eqb-true, leb-true}
+use lib.Dec.{T, eqb, lit≤}
 use Rattle.rate.specs.declared.Rate.{Rate}
 use Rattle.rate.specs.declared.Named.{Named}
 use Rattle.rate.specs.declared.Named.the-variants.{As, Nothing}
-use Rattle.rate.specs.Rates.{hz694, hz8000, hz16000, rateOf, isSome, isNamed, zeroRow, rowOf, named, Ceiling, Keeps}
+use Rattle.rate.specs.Rates.{hz694, hz8000, hz16000, hz32000, hz48000, rateOf, isSome, isNamed, zeroRow, rowOf, named, Ceiling, lastsAtLeast, lastsAtMost, keepsTime, Keeps}
 
 -- P of the rate, where there is one
 Of : (Rate → Type 0) → Option Rate → Type 0
@@ -22,14 +22,20 @@ unfolding Of
 by-test P true r o p q = p refl
 by-test P false r o p q = q
 
--- what holds of each row, at its code, holds of the rate that a code names
-each-row : (P : ℕ → Rate → Type 0) → P 1 hz694 → P 2 hz8000 → P 3 hz16000 → (code : ℕ) (r : Rate) → rateOf code ≡ some r → P code r
+-- P of every row, at its code
+abbrev Rows : (ℕ → Rate → Type 0) → Type 0
+Rows P = P 1 hz694 × P 2 hz8000 × P 3 hz16000 × P 4 hz32000 × P 5 hz48000
+
+-- what holds of every row holds of the rate that a code names
+each-row : (P : ℕ → Rate → Type 0) → Rows P → (code : ℕ) (r : Rate) → rateOf code ≡ some r → P code r
 unfolding rateOf Of
-each-row P one two three code r e =
+each-row P rows code r e =
     subst (Of (P code)) e
-    (by-test (P code) (eqb code 1) _ _ (at 1 _ one)
-    (by-test (P code) (eqb code 2) _ _ (at 2 _ two)
-    (by-test (P code) (eqb code 3) _ _ (at 3 _ three) tt)))
+    (by-test (P code) (eqb code 1) _ _ (at 1 _ (rows .0))
+    (by-test (P code) (eqb code 2) _ _ (at 2 _ (rows .1))
+    (by-test (P code) (eqb code 3) _ _ (at 3 _ (rows .2))
+    (by-test (P code) (eqb code 4) _ _ (at 4 _ (rows .3))
+    (by-test (P code) (eqb code 5) _ _ (at 5 _ (rows .4)) tt)))))
   where
     at : (c : ℕ) (r : Rate) → P c r → eqb code c ≡ true → P code r
     at c r p h = subst (λ (x : ℕ). P x r) (sym (eqb-true code c h)) p
@@ -51,15 +57,30 @@ Figures r =
     × (2 ^ 21 ≤ r .d * r .k)
     × (r .d * r .k < 2 ^ 21 + r .k)
 
-keeps : (r : Rate) → Figures r → Keeps r
-keeps r f = record { k-low = f .0; k-high = f .1; i-rule = ceiling (f .2) (f .3); d-rule = ceiling (f .4) (f .5) }
+named-figures : (code : ℕ) (r : Rate) → rateOf code ≡ some r → Figures r
+named-figures = each-row (λ code r. Figures r) (omega arith)
+
+-- by computation: at the last rate the numbers have some 30000 bits
+named-time : (code : ℕ) (r : Rate) → rateOf code ≡ some r → keepsTime (r .hertz) (r .k) ≡ true
+unfolding lastsAtLeast lastsAtMost keepsTime
+named-time = each-row (λ code r. keepsTime (r .hertz) (r .k) ≡ true) (refl, refl, refl, refl, refl)
 
 pub named-keeps : (code : ℕ) (r : Rate) → rateOf code ≡ some r → Keeps r
-named-keeps =
-    each-row (λ code r. Keeps r) (keeps hz694 (omega arith)) (keeps hz8000 (omega arith)) (keeps hz16000 (omega arith))
+named-keeps code r e =
+    let f = named-figures code r e in
+    record { k-low = f .0; k-high = f .1; t-rule = named-time code r e; i-rule = ceiling (f .2) (f .3); d-rule = ceiling (f .4) (f .5) }
 
 pub named-code : (code : ℕ) (r : Rate) → rateOf code ≡ some r → r .code ≡ code
-named-code = each-row (λ code r. r .code ≡ code) refl refl refl
+named-code = each-row (λ code r. r .code ≡ code) (refl, refl, refl, refl, refl)
+
+-- T is not both at least and at most t samples: the two tests leave e between its two decimal fractions, which therefore can't be exchanged
+pub not-both : (K t : ℕ) → lastsAtLeast K t ≡ true → lastsAtMost K t ≡ true → ⊥
+unfolding lastsAtLeast lastsAtMost
+not-both K t low high =
+    compared ((2 ^ 20) ^ t) ((2 ^ 20 - K) ^ t) (one-le-pow t (2 ^ 20) (lit≤ tt)) (leb-true _ _ low) (leb-true _ _ high)
+  where
+    compared : (x y : ℕ) → 0 < x → 10 ^ 10 * x ≤ 27182818284 * y → 27182818285 * y ≤ 10 ^ 10 * x → ⊥
+    compared x y p l h = omega arith
 
 -- ---- by the code alone
 
@@ -81,7 +102,7 @@ row-keeps code n = from-rate code (λ r e. subst Keeps (sym (row-is code r e)) (
 
 -- a code that names a rate fits a byte
 pub named-small : (code : ℕ) → isNamed code ≡ true → code < 256
-named-small code n = from-rate code (each-row (λ c r. c < 256) (omega arith) (omega arith) (omega arith) code) n
+named-small code n = from-rate code (each-row (λ c r. c < 256) (omega arith) code) n
 
 pub zero-unnamed : isNamed 0 ≡ false
 unfolding isNamed rateOf

@@ -1,8 +1,9 @@
 -- The named rates: METHOD.md, "Rates".
-use mathlib.Core.Bool.{Bool, true, false, cond}
+use mathlib.Core.Bool.{Bool, true, false, cond, _&&_}
 use mathlib.Core.Option.{Option, none, some, Option·getD}
-use Prim.Native.Nat.{ℕ, _*_, _^_, _≤_}
-use lib.Dec.{eqb}
+use mathlib.Core.Path.{_≡_}
+use Prim.Native.Nat.{ℕ, _+_, _-_, _*_, _/_, _^_, _≤_}
+use lib.Dec.{eqb, leb}
 use Rattle.rate.specs.declared.Rate.{Rate}
 use Rattle.rate.specs.declared.Named.{Named}
 use Rattle.rate.specs.declared.Named.the-variants.{As, Nothing}
@@ -17,6 +18,12 @@ hz8000 = record { code = 2; hertz = 8000; k = 4360; i = 1600; d = 481 }
 abbrev pub hz16000 : Rate
 hz16000 = record { code = 3; hertz = 16000; k = 2182; i = 3200; d = 962 }
 
+abbrev pub hz32000 : Rate
+hz32000 = record { code = 4; hertz = 32000; k = 1092; i = 6400; d = 1921 }
+
+abbrev pub hz48000 : Rate
+hz48000 = record { code = 5; hertz = 48000; k = 728; i = 9600; d = 2881 }
+
 abbrev pub isSome : Option Rate → Bool
 isSome none = false
 isSome (some r) = true
@@ -27,7 +34,9 @@ rateOf code =
     cond (eqb code 1) (some hz694)
     (cond (eqb code 2) (some hz8000)
     (cond (eqb code 3) (some hz16000)
-    none))
+    (cond (eqb code 4) (some hz32000)
+    (cond (eqb code 5) (some hz48000)
+    none))))
 
 -- whether a code names a rate
 unfoldable pub isNamed : ℕ → Bool
@@ -50,10 +59,23 @@ pub record Ceiling (a b c : ℕ) : Type 0 where
   pub not-below : a ≤ c * b
   pub smallest : (x : ℕ) → a ≤ x * b → c ≤ x
 
--- what a row's figures keep to: the coefficient 1 − K/2^20 is a fraction, I is the least number of samples that lasts 0.2 s,
--- and D the least whole number that is 2^21/K or more
+-- P.56 smooths by g = exp(−1/(f·T)) at f samples a second, and here g is 1 − K/2^20. So T lasts t samples or longer where g^t ≥ 1/e, and t samples or
+-- shorter where g^t ≤ 1/e; e is between 2.7182818284 and 2.7182818285
+unfoldable pub lastsAtLeast : (K t : ℕ) → Bool
+lastsAtLeast K t = leb (10 ^ 10 * (2 ^ 20) ^ t) (27182818284 * (2 ^ 20 - K) ^ t)
+
+unfoldable pub lastsAtMost : (K t : ℕ) → Bool
+lastsAtMost K t = leb (27182818285 * (2 ^ 20 - K) ^ t) (10 ^ 10 * (2 ^ 20) ^ t)
+
+-- "it keeps T within Table 2's 5 %" of 0.03 s: from 0.0285 s to 0.0315 s, of which the one is rounded up to samples and the other down
+unfoldable pub keepsTime : (f K : ℕ) → Bool
+keepsTime f K = lastsAtLeast K ((285 * f + 9999) / 10000) && lastsAtMost K (315 * f / 10000)
+
+-- what a row's figures keep to: the coefficient 1 − K/2^20 is a fraction that keeps T, I is the least number of samples that lasts 0.2 s, and D the least
+-- whole number that is 2^21/K or more
 pub record Keeps (r : Rate) : Type 0 where
   pub k-low : 1 ≤ r .k
   pub k-high : r .k ≤ 2 ^ 20
+  pub t-rule : keepsTime (r .hertz) (r .k) ≡ true
   pub i-rule : Ceiling (r .hertz) 5 (r .i)
   pub d-rule : Ceiling (2 ^ 21) (r .k) (r .d)

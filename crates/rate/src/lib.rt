@@ -43,6 +43,22 @@ impl Rate {
         d: 962,
     };
 
+    pub const HZ_32000: Rate = Rate {
+        code: 4,
+        hertz: 32000,
+        k: 1092,
+        i: 6400,
+        d: 1921,
+    };
+
+    pub const HZ_48000: Rate = Rate {
+        code: 5,
+        hertz: 48000,
+        k: 728,
+        i: 9600,
+        d: 2881,
+    };
+
     // The rate that a code names.
     pub fn of(code: u32) -> Named
         ensures { λ r. ⌜ named r ≡ rateOf code ⌝ }
@@ -51,6 +67,8 @@ impl Rate {
             1 => Named::As(Rate::HZ_694),
             2 => Named::As(Rate::HZ_8000),
             3 => Named::As(Rate::HZ_16000),
+            4 => Named::As(Rate::HZ_32000),
+            5 => Named::As(Rate::HZ_48000),
             _ => Named::Nothing,
         }
     }
