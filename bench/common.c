@@ -6,12 +6,14 @@
 
 #include <stdio.h>
 
-enum { HEADER = 7, MOST_SAMPLES = 32768 };
+enum { HEADER = 7, MOST_SAMPLES = 32768, CODES = 5 };
 
-static const struct rate rates[] = {
+static const struct rate rates[CODES] = {
     {694, 49174, 139},
     {8000, 4360, 1600},
     {16000, 2182, 3200},
+    {32000, 1092, 6400},
+    {48000, 728, 9600},
 };
 
 static unsigned number_at(const uint8_t *bytes)
@@ -32,7 +34,7 @@ int main(void)
     static int16_t samples[MOST_SAMPLES];
     size_t length = fread(input, 1, sizeof input, stdin);
     size_t chunk = number_at(input + 3) ? number_at(input + 3) : CHUNK;
-    if (length < HEADER || input[0] < 1 || input[0] > 3 || chunk > CHUNK || getchar() != EOF) {
+    if (length < HEADER || input[0] < 1 || input[0] > CODES || chunk > CHUNK || getchar() != EOF) {
         fputs("wanted: a rate code, the rounds, a chunk's length, an offset and at most 32768 samples\n", stderr);
         return 1;
     }

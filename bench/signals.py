@@ -1,7 +1,7 @@
 #!/usr/bin/env python3
 """Writes the input of a speed comparison to standard output: signals.py KIND CODE ROUNDS [CHUNK [OFFSET]]
 
-KIND is a key of KINDS below, CODE a rate code (1 to 3), ROUNDS how often a program is to feed the
+KIND is a key of KINDS below, CODE a rate code (1 to 5), ROUNDS how often a program is to feed the
 samples to its meter, CHUNK the length of a chunk, 4096 where it is left out, OFFSET the offset that
 the meter is opened with, 0 where it is left out. How many samples change the band of the envelope,
 which is what decides the cost of counting by runs, is told on standard error. The same arguments
@@ -15,8 +15,8 @@ import sys
 SAMPLES = 32768
 FULL_SCALE = 32768
 LARGEST = 32767
-SPEEDS = {1: 694, 2: 8000, 3: 16000}
-SMOOTHINGS = {1: 49174, 2: 4360, 3: 2182}
+SPEEDS = {1: 694, 2: 8000, 3: 16000, 4: 32000, 5: 48000}
+SMOOTHINGS = {1: 49174, 2: 4360, 3: 2182, 4: 1092, 5: 728}
 
 
 def ratio(decibels):

@@ -9,8 +9,8 @@
 extern "C" {
 #endif
 
-/* Grows by 1 where something that this header declares is added or changed. */
-#define HOGGETWHIRL_VERSION 2
+/* Grows by 1 with each change of what this header declares or says. Rate codes 4 and 5 are 3's. */
+#define HOGGETWHIRL_VERSION 3
 
 /* How many bytes a sample block has, and how many samples it holds at most. */
 #define HOGGETWHIRL_BLOCK_BYTES 512
@@ -34,7 +34,7 @@ enum hoggetwhirl_answer {
  *
  *   bytes        field
  *   0            kind: 1
- *   1            rate code: 1 (694 samples a second), 2 (8000) or 3 (16000)
+ *   1            rate code: 1 (694 samples a second), 2 (8000), 3 (16000), 4 (32000) or 5 (48000)
  *   2, 3         count: how many samples the block holds, 1 to 248
  *   4 to 11      samples before: how many samples were measured before this block
  *   12 to 507    samples: two bytes each, two's complement; zeros after the last one
@@ -60,7 +60,7 @@ enum hoggetwhirl_answer {
  * Returns HOGGETWHIRL_ACCEPTED, 0, where the block is sound and of that rate, else the number of
  * the first of these that applies:
  *
- *   1  HOGGETWHIRL_UNNAMED_RATE  code names no rate: it is not 1, 2 or 3
+ *   1  HOGGETWHIRL_UNNAMED_RATE  code names no rate: it is not 1 to 5
  *   4  HOGGETWHIRL_BLOCK_LENGTH  the block is not 512 bytes long
  *   5  HOGGETWHIRL_BLOCK_CHECK   a check word is wrong
  *   6  HOGGETWHIRL_BLOCK_KIND    the kind is not 1
@@ -89,7 +89,7 @@ uint32_t hoggetwhirl_check_block(const uint8_t *block, size_t length, uint32_t c
  * Returns HOGGETWHIRL_ACCEPTED, 0, where all 512 bytes of the buffer are now the block's, else the
  * number of the first of these that applies, and then the buffer is as it was:
  *
- *   1   HOGGETWHIRL_UNNAMED_RATE        code names no rate: it is not 1, 2 or 3
+ *   1   HOGGETWHIRL_UNNAMED_RATE        code names no rate: it is not 1 to 5
  *   4   HOGGETWHIRL_BLOCK_LENGTH        the buffer is not 512 bytes long
  *   18  HOGGETWHIRL_UNWRITABLE_SAMPLES  count is not 1 to 248, or before and count together are
  *                                       more than 2^48

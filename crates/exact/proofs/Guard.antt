@@ -331,7 +331,7 @@ module _ (m : Meter) (ok : impossible m ≡ false) where
 -- of the last rate
 K-lasts : (10 ^ 10 * (2 ^ 20) ^ 1368 ≤ 27182818284 * (2 ^ 20 - 728) ^ 1368) × (27182818285 * (2 ^ 20 - 728) ^ 1512 ≤ 10 ^ 10 * (2 ^ 20) ^ 1512)
 unfolding isNamed rowOf rateOf keepsTime lastsAtLeast lastsAtMost
-K-lasts = let t = and-eq-true-iff _ _ .0 (claim .rates 5 refl .t-rule) in (leb-true _ _ (t .0), leb-true _ _ (t .1))
+K-lasts = let t = and-eq-true-iff _ _ .0 (claim .rates 5 refl .time-rule) in (leb-true _ _ (t .0), leb-true _ _ (t .1))
 
 least-I : (i : ℕ) → 48000 ≤ i * 5 → 9600 ≤ i
 unfolding isNamed rowOf rateOf

@@ -70,7 +70,7 @@ pub record Values : Type 0 where
 pub data Row : Type 0 where
   -- a code names the rate with these figures
   rate : (code hertz K I D : ℕ) → Row
-  -- at f samples a second K keeps T within 5 %
+  -- at f samples a second K keeps the smoothing time within 5 %
   timed : (f K : ℕ) → Row
   -- lev(N) is v
   level : (N v : ℕ) → Row

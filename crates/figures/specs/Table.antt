@@ -183,7 +183,7 @@ measuring =
     ∷ rate 3 16000 2182 3200 962
     ∷ rate 4 32000 1092 6400 1921
     ∷ rate 5 48000 728 9600 2881
-    -- T at each rate; and with the least K and the largest that keep it, at the first rate and at the last
+    -- the smoothing time at each rate; and with the least K and the largest that keep it, at the first rate and at the last
     ∷ timed 694 49174
     ∷ timed 8000 4360
     ∷ timed 16000 2182
@@ -625,7 +625,7 @@ wrong =
     -- K of the last rate at the one before, and an I one too few
     ∷ rate 4 32000 728 6400 1921
     ∷ rate 5 48000 728 9599 2881
-    -- a K 6 % off, either way; and those just past the least and the largest that keep T
+    -- a K 6 % off, either way; and those just past the least and the largest that keep the smoothing time
     ∷ timed 694 46224
     ∷ timed 694 52124
     ∷ timed 8000 4098

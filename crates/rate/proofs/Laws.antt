@@ -68,16 +68,16 @@ named-time = each-row (λ code r. keepsTime (r .hertz) (r .k) ≡ true) (refl, r
 pub named-keeps : (code : ℕ) (r : Rate) → rateOf code ≡ some r → Keeps r
 named-keeps code r e =
     let f = named-figures code r e in
-    record { k-low = f .0; k-high = f .1; t-rule = named-time code r e; i-rule = ceiling (f .2) (f .3); d-rule = ceiling (f .4) (f .5) }
+    record { k-low = f .0; k-high = f .1; time-rule = named-time code r e; i-rule = ceiling (f .2) (f .3); d-rule = ceiling (f .4) (f .5) }
 
 pub named-code : (code : ℕ) (r : Rate) → rateOf code ≡ some r → r .code ≡ code
 named-code = each-row (λ code r. r .code ≡ code) (refl, refl, refl, refl, refl)
 
--- T is not both at least and at most t samples: the two tests leave e between its two decimal fractions, which therefore can't be exchanged
-pub not-both : (K t : ℕ) → lastsAtLeast K t ≡ true → lastsAtMost K t ≡ true → ⊥
+-- T is not both at least and at most i samples: e lies between the two tests, so that its two decimal fractions can't be exchanged
+pub not-both : (K i : ℕ) → lastsAtLeast K i ≡ true → lastsAtMost K i ≡ true → ⊥
 unfolding lastsAtLeast lastsAtMost
-not-both K t low high =
-    compared ((2 ^ 20) ^ t) ((2 ^ 20 - K) ^ t) (one-le-pow t (2 ^ 20) (lit≤ tt)) (leb-true _ _ low) (leb-true _ _ high)
+not-both K i low high =
+    compared ((2 ^ 20) ^ i) ((2 ^ 20 - K) ^ i) (one-le-pow i (2 ^ 20) (lit≤ tt)) (leb-true _ _ low) (leb-true _ _ high)
   where
     compared : (x y : ℕ) → 0 < x → 10 ^ 10 * x ≤ 27182818284 * y → 27182818285 * y ≤ 10 ^ 10 * x → ⊥
     compared x y p l h = omega arith

@@ -59,23 +59,23 @@ pub record Ceiling (a b c : ℕ) : Type 0 where
   pub not-below : a ≤ c * b
   pub smallest : (x : ℕ) → a ≤ x * b → c ≤ x
 
--- P.56 smooths by g = exp(−1/(f·T)) at f samples a second, and here g is 1 − K/2^20. So T lasts t samples or longer where g^t ≥ 1/e, and t samples or
--- shorter where g^t ≤ 1/e; e is between 2.7182818284 and 2.7182818285
-unfoldable pub lastsAtLeast : (K t : ℕ) → Bool
-lastsAtLeast K t = leb (10 ^ 10 * (2 ^ 20) ^ t) (27182818284 * (2 ^ 20 - K) ^ t)
+-- The smoothing time T: P.56 has g = exp(−1/(f·T)) at f samples a second, and here g is 1 − K/2^20. So T is i samples or longer where g^i ≥ 1/e, and i
+-- samples or shorter where g^i ≤ 1/e. e is between 2.7182818284 and 2.7182818285
+unfoldable pub lastsAtLeast : (K i : ℕ) → Bool
+lastsAtLeast K i = leb (10 ^ 10 * (2 ^ 20) ^ i) (27182818284 * (2 ^ 20 - K) ^ i)
 
-unfoldable pub lastsAtMost : (K t : ℕ) → Bool
-lastsAtMost K t = leb (27182818285 * (2 ^ 20 - K) ^ t) (10 ^ 10 * (2 ^ 20) ^ t)
+unfoldable pub lastsAtMost : (K i : ℕ) → Bool
+lastsAtMost K i = leb (27182818285 * (2 ^ 20 - K) ^ i) (10 ^ 10 * (2 ^ 20) ^ i)
 
--- "it keeps T within Table 2's 5 %" of 0.03 s: from 0.0285 s to 0.0315 s, of which the one is rounded up to samples and the other down
+-- K "keeps T within Table 2's 5 %" of 0.03 s: from 0.0285 s, rounded up to samples, to 0.0315 s, rounded down
 unfoldable pub keepsTime : (f K : ℕ) → Bool
 keepsTime f K = lastsAtLeast K ((285 * f + 9999) / 10000) && lastsAtMost K (315 * f / 10000)
 
--- what a row's figures keep to: the coefficient 1 − K/2^20 is a fraction that keeps T, I is the least number of samples that lasts 0.2 s, and D the least
+-- what a row's figures keep to: the coefficient 1 − K/2^20 is a fraction and keeps T, I is the least number of samples that lasts 0.2 s, and D the least
 -- whole number that is 2^21/K or more
 pub record Keeps (r : Rate) : Type 0 where
   pub k-low : 1 ≤ r .k
   pub k-high : r .k ≤ 2 ^ 20
-  pub t-rule : keepsTime (r .hertz) (r .k) ≡ true
+  pub time-rule : keepsTime (r .hertz) (r .k) ≡ true
   pub i-rule : Ceiling (r .hertz) 5 (r .i)
   pub d-rule : Ceiling (2 ^ 21) (r .k) (r .d)
