@@ -1,14 +1,14 @@
 -- The claim, used: each clause at an end of what it is about, so that a claim that says less no longer proves what stands here. That what the clauses
 -- speak of leaves nothing to choice is shown where it is: `only` and `untouched-once` of `meter`, `worked-once` beside this file.
-use mathlib.Core.Bool.{true, false, cond, and-eq-true-iff}
+use mathlib.Core.Bool.{true, false, cond}
 use mathlib.Core.List.{List, [], _∷_}
 use mathlib.Core.Logic.{_⊎_}
 use mathlib.Core.Option.{some}
 use mathlib.Core.Path.{_≡_, refl, sym, ap, _∙_, subst}
-use Prim.Native.Nat.{ℕ, zero, suc, _+_, _-_, _*_, _^_, _≤_, _<_}
+use Prim.Native.Nat.{ℕ, zero, suc, _+_, _*_, _^_, _≤_, _<_}
 use native.Mathlib.Nat.{le-antisymm, le-of-eq, lt-of-le-of-lt}
 use native.Mathlib.Omega.{arith}
-use borrow.Author.Tests.{ne-eqb, leb-true, le-leb}
+use borrow.Author.Tests.{ne-eqb, le-leb}
 use lib.Dec.{eqb, lit<, lit≤}
 use lib.IntN.{ℤ, pos, negsuc, _+ℤ_}
 use lib.ListN.{length, getD}
@@ -20,7 +20,7 @@ use Rattle.level.specs.Types.{activity, twoWords}
 use Rattle.level.proofs.Laws.{pow-lt-cancel}
 use Rattle.thresholds.specs.Lists.{heldOf, doubled, builtIn, thresholdOf, wrongLength, wrongEntry, wrongEnd, listRules}
 use Rattle.thresholds.specs.Places.{listFrom, upTo, someBelow, someFrom}
-use Rattle.rate.specs.Rates.{rateOf, isNamed, rowOf, Ceiling, lastsAtLeast, lastsAtMost, keepsTime}
+use Rattle.rate.specs.Rates.{rateOf, isNamed, rowOf, Ceiling, keepsTime}
 use Rattle.refusal.specs.First.{firstOf, NoneApplies, applies, Lowest}
 use Rattle.refusal.proofs.Laws.{lowest-given}
 use Rattle.setting.specs.declared.Setting.{Setting}
@@ -328,10 +328,9 @@ module _ (m : Meter) (ok : impossible m ≡ false) where
   of-T : levelOf 10000 ≡ some (pos (lev 10000))
   of-T = claim .levels-exist m ok .of-T 10000 (lit≤ tt) (lit≤ tt)
 
--- of the last rate
-K-lasts : (10 ^ 10 * (2 ^ 20) ^ 1368 ≤ 27182818284 * (2 ^ 20 - 728) ^ 1368) × (27182818285 * (2 ^ 20 - 728) ^ 1512 ≤ 10 ^ 10 * (2 ^ 20) ^ 1512)
-unfolding isNamed rowOf rateOf keepsTime lastsAtLeast lastsAtMost
-K-lasts = let t = and-eq-true-iff _ _ .0 (claim .rates 5 refl .time-rule) in (leb-true _ _ (t .0), leb-true _ _ (t .1))
+-- the smoothing time at whatever rate, since at a code that is given it would be worked out and not taken from the claim; I and D at the last
+in-time : (code : ℕ) → isNamed code ≡ true → keepsTime (rowOf code .hertz) (rowOf code .k) ≡ true
+in-time code n = claim .rates code n .time-rule
 
 least-I : (i : ℕ) → 48000 ≤ i * 5 → 9600 ≤ i
 unfolding isNamed rowOf rateOf
