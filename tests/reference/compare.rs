@@ -107,6 +107,7 @@ fn show(
     let list = opened.thresholds.entries();
     let a = &meter.a[..list.len()];
     let clauses = [
+        ("code", meter.setting.code == exact.rate.code),
         ("offset", meter.setting.offset == exact.offset),
         ("margin", meter.setting.margin == opened.margin),
         ("list", meter.setting.thresholds == opened.thresholds),

@@ -5,6 +5,7 @@
 mod cards;
 mod margins;
 mod offsets;
+mod rates;
 mod read_back;
 mod thresholds;
 mod writes;
@@ -127,6 +128,7 @@ pub fn doctored(tally: &mut Tally) {
     percentages_at_ends(tally);
     lines(tally);
     totals(tally);
+    rates::rates(tally);
     offsets::offsets(tally);
     margins::margins(tally);
     thresholds::thresholds(tally);

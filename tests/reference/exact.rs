@@ -8,7 +8,7 @@ use crate::rate::Rate;
 /// E (the customer's scope, "One sample"; the customer's request L2), with sq ("The report") and s
 /// over the samples it took.
 pub struct Exact {
-    pub rate: &'static Rate,
+    pub rate: Rate,
     pub offset: i16,
     pub y: u64,
     /// The numerator of p over 2^(20 y).
@@ -24,10 +24,10 @@ pub struct Exact {
 
 impl Exact {
     /// E before any call (the customer's scope, "One sample"; the customer's request L2).
-    pub fn open(rate: &'static Rate, offset: i16) -> Exact {
+    pub fn open(rate: &Rate, offset: i16) -> Exact {
         let zero = Natural::from(0);
         Exact {
-            rate,
+            rate: *rate,
             offset,
             y: 0,
             p: zero.clone(),
@@ -121,7 +121,7 @@ impl Exact {
         pairs.all(|(&c_j, &a_j)| a_j >= self.count(c_j + self.rate.D()))
     }
 
-    /// Demand 3: Q is at most q, and less than D below it.
+    /// The envelope's error: Q is at most q, and less than D below it (the customer's request L9).
     pub fn envelope(&self, Q: u64) -> bool {
         let denominator = 20 * (self.y + 1);
         let units = |number: u128| Natural::from(number).shift_left(denominator);

@@ -8,6 +8,7 @@ mod highest;
 mod host;
 mod margins;
 mod offsets;
+mod rates;
 mod recorded;
 mod thresholds;
 mod writes;
@@ -16,7 +17,6 @@ use crate::block;
 use crate::doctored::doctored;
 use crate::meter::Meter;
 use crate::percent;
-use crate::rate::RATES;
 use crate::report::report;
 use crate::setting::Setting;
 use crate::tally::Tally;
@@ -24,7 +24,7 @@ use crate::tally::Tally;
 /// Every figure; whether none failed.
 pub fn figures() -> bool {
     let mut tally = Tally::new();
-    rates(&mut tally);
+    rates::rates(&mut tally);
     program(&mut tally);
     percentages(&mut tally);
     percentage_never_falls(&mut tally);
@@ -40,24 +40,6 @@ pub fn figures() -> bool {
     cards::cards(&mut tally);
     doctored(&mut tally);
     tally.finish()
-}
-
-/// The table of rates, and T within its tolerance (the customer's scope, "Rates").
-fn rates(tally: &mut Tally) {
-    let table = [
-        (1, 694, 49174, 139, 43),
-        (2, 8000, 4360, 1600, 481),
-        (3, 16000, 2182, 3200, 962),
-    ];
-    for (rate, row) in RATES.iter().zip(table) {
-        let found = (rate.code, rate.samples_per_second, rate.K, rate.I, rate.D());
-        tally.equal("rate", found, row);
-        tally.equal("I by its rule", rate.I_by_rule(), rate.I);
-        tally.holds(
-            &format!("rate {}: T within 5 %", rate.code),
-            rate.keeps_time_constant(),
-        );
-    }
 }
 
 /// A meter handed in at code 2, its first a_j given (the customer's scope, "Worked figures"), with

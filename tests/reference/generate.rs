@@ -23,24 +23,35 @@ use crate::rate::RATES;
 use crate::records::Record;
 use random::Random;
 
-/// The codes given to the host's check and to its writes.
-const HOST_CODES: [u32; 12] = [0, 1, 2, 3, 4, 5, 255, 256, 257, 258, 259, u32::MAX];
+/// Codes of one byte: those that name a rate, those next to them, and the largest.
+///
+/// They are numbers, not made from the table of rates, so that a table with a row too few or too
+/// many is not tried with its own codes alone.
+const CODES: [u8; 9] = [0, 1, 2, 3, 4, 5, 6, 7, 255];
+
+/// Those of them that name no rate.
+const UNNAMED: [u8; 4] = [0, 6, 7, 255];
+
+/// The same codes as numbers of 32 bits.
+fn byte_codes() -> Vec<u32> {
+    CODES.map(u32::from).to_vec()
+}
+
+/// The codes given to the host's check and to its writes: those of one byte, 256 and those that
+/// would name a rate by their low byte, and the largest.
+fn host_codes() -> Vec<u32> {
+    [&byte_codes()[..], &[256, 257, 258, 259, 260, 261, u32::MAX]].concat()
+}
 
 /// Further ones, which would name a rate by their low half, or but for their highest byte or bit,
 /// or with their bytes reversed.
-const WIDE_CODES: [u32; 8] = [
-    0x0001_0001,
-    0x0001_0002,
-    0x0001_0003,
-    0x0100_0001,
-    0x0200_0002,
-    0x0300_0003,
-    0x8000_0001,
-    0x0100_0000,
-];
-
-/// Those of the first that one byte holds.
-const BYTE_CODES: [u32; 7] = [0, 1, 2, 3, 4, 5, 255];
+fn wide_codes() -> Vec<u32> {
+    let of = |code: u32| {
+        let reversed = code.swap_bytes();
+        [1 << 16 | code, reversed | code, 1 << 31 | code, reversed]
+    };
+    (1..=5).flat_map(of).collect()
+}
 
 /// The records or the recording of one kind; None for an unknown kind.
 pub fn generate(kind: &str, seed: u64, count: u64) -> Option<Vec<u8>> {
@@ -105,13 +116,13 @@ fn host(seed: u64, count: u64) -> Vec<u8> {
     let mut check = |code: u32, bytes: &[u8]| {
         Record::Check(code, bytes.to_vec()).write_for_host(&mut out);
     };
-    blocks::all(seed, count, &HOST_CODES, &mut check);
-    for code in WIDE_CODES {
+    blocks::all(seed, count, &host_codes(), &mut check);
+    for code in wide_codes() {
         for rate in &RATES {
             check(code, &block::make(rate.code, 0, &[1]));
         }
     }
-    let codes = [&HOST_CODES[..], &WIDE_CODES].concat();
+    let codes = [host_codes(), wide_codes()].concat();
     writes::for_host(seed, count, &codes, &mut out);
     out
 }
@@ -119,7 +130,7 @@ fn host(seed: u64, count: u64) -> Vec<u8> {
 /// The same kind of blocks, as records of a check.
 fn check(seed: u64, count: u64) -> Vec<u8> {
     let mut out = Vec::new();
-    blocks::all(seed, count, &BYTE_CODES, &mut |code, bytes| {
+    blocks::all(seed, count, &byte_codes(), &mut |code, bytes| {
         Record::Check(code, bytes.to_vec()).write(&mut out);
     });
     out

@@ -14,6 +14,7 @@ mod block;
 mod cards;
 mod chosen;
 mod clause11;
+mod codes;
 mod compare;
 mod crossed;
 mod doctored;
@@ -54,7 +55,7 @@ const BAD_RECORD: &str = "the script has a bad record";
 const COMMANDS: &str = "replay | report | host | generate KIND SEED COUNT | records [host] | \
     answers | values KIND NAME.. | blocks CODE [K] | \
     recorded CODE | noise D SEED | figures | samples | largest | crossed | \
-    chosen | margins | listed | agrees SCRIPT OUTPUT | written SCRIPT OUTPUT | \
+    chosen | codes | margins | listed | agrees SCRIPT OUTPUT | written SCRIPT OUTPUT | \
     cards SCRIPT OUTPUT SCRIPT OUTPUT | compared RECORDING OUTPUT RECORDING OUTPUT | \
     clause11 script | clause11 check OUTPUT | speech ...";
 
@@ -151,7 +152,7 @@ fn two_cards(
 fn rate_of(code: &str) -> io::Result<&'static rate::Rate> {
     match code.parse().ok().and_then(rate::rate) {
         Some(rate) => Ok(rate),
-        None => error("CODE is 1, 2 or 3"),
+        None => error("CODE is a number from 1 to 5"),
     }
 }
 
@@ -234,6 +235,7 @@ fn told(word: &str, script: &[u8]) -> Option<String> {
         "largest" => replay::largest_size(script),
         "crossed" => crossed::crossed(script),
         "chosen" => chosen::chosen(script),
+        "codes" => codes::codes(script),
         "margins" => margins::margins(script),
         "listed" => listed::listed(script),
         _ => None,
@@ -261,7 +263,7 @@ fn run(arguments: &[&str]) -> io::Result<bool> {
         ["recorded", code] => output(&measurement::recorded(rate_of(code)?, &input()?)),
         ["noise", most, seed] => noise(most, seed),
         ["figures"] => Ok(figures::figures()),
-        [word @ ("samples" | "largest" | "crossed" | "chosen" | "margins" | "listed")] => {
+        [word @ ("samples" | "largest" | "crossed" | "chosen" | "codes" | "margins" | "listed")] => {
             lines(told(word, &input()?), BAD_RECORD)
         }
         ["agrees", script, printed] => held(compare::agrees, script, printed),

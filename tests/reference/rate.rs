@@ -1,6 +1,7 @@
-//! The three named rates.
+//! The five named rates.
 
 /// One row of the table of rates (the customer's scope, "Rates").
+#[derive(Clone, Copy)]
 pub struct Rate {
     pub code: u8,
     pub samples_per_second: u64,
@@ -8,8 +9,9 @@ pub struct Rate {
     pub I: u64,
 }
 
-/// The table itself (the customer's scope, "Rates"); D is left to its rule.
-pub const RATES: [Rate; 3] = [
+/// The table itself (the customer's scope, "Rates"; the customer's request L9); D is left to its
+/// rule.
+pub const RATES: [Rate; 5] = [
     Rate {
         code: 1,
         samples_per_second: 694,
@@ -28,9 +30,22 @@ pub const RATES: [Rate; 3] = [
         K: 2182,
         I: 3200,
     },
+    Rate {
+        code: 4,
+        samples_per_second: 32000,
+        K: 1092,
+        I: 6400,
+    },
+    Rate {
+        code: 5,
+        samples_per_second: 48000,
+        K: 728,
+        I: 9600,
+    },
 ];
 
-/// The rate that a code names, if it names one (the customer's scope, "Rates").
+/// The rate that a code names, if it names one (the customer's scope, "Rates"; the customer's
+/// request L9).
 pub fn rate(code: u32) -> Option<&'static Rate> {
     RATES.iter().find(|rate| u32::from(rate.code) == code)
 }

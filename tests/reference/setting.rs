@@ -89,6 +89,13 @@ impl From<Setting> for Opening {
 }
 
 impl Meter {
+    /// The same meter with another code.
+    pub fn at_code(&self, code: u8) -> Meter {
+        let mut meter = self.clone();
+        meter.setting.code = code;
+        meter
+    }
+
     /// The same meter with another offset.
     pub fn at_offset(&self, offset: i16) -> Meter {
         let mut meter = self.clone();

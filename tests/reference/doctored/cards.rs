@@ -276,7 +276,7 @@ fn lines(tally: &mut Tally) {
     let margin = Setting { margin: 0, ..USUAL };
     let reported = [Record::open(USUAL), Record::Report, Record::Show];
     let rows = [
-        (opened(Setting::usual(4)), "an opening to accept"),
+        (opened(Setting::usual(6)), "an opening to accept"),
         (opened(margin), "an opening to accept"),
         (script(&[Record::Show]), "an opening, calls, a show"),
         (script(&reported), "an opening, calls, a show"),

@@ -134,7 +134,7 @@ fn afresh(tally: &mut Tally) {
     }
 }
 
-/// Writes after a check, one of them afresh, and those that are not: of other contents than the
+/// Writes after a check, two of them afresh, and those that are not: of other contents than the
 /// block's, into a longer buffer, of a block that is not sound, of one whose samples end past 2^48.
 fn not_afresh(tally: &mut Tally) {
     let own = |code, before, samples: &[i16]| {
@@ -153,7 +153,8 @@ fn not_afresh(tally: &mut Tally) {
         (other(2, 7, 2, 512), 0),
         (other(2, 7, 1, 513), 0),
         (own(2, 7, &[]), 0),
-        (own(4, 7, &[1]), 0),
+        (own(5, 7, &[1]), 1),
+        (own(6, 7, &[1]), 0),
         (own(2, 1 << 48, &[1]), 0),
     ];
     for ((bytes, writing), times) in rows {

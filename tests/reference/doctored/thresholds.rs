@@ -74,8 +74,8 @@ fn openings(tally: &mut Tally) {
         (1, 21635, changed(least.clone(), 13, (1 << 37) - 1), 21),
         (1, 22315, vec![], 17),
         (1, 0, vec![7; 14], 17),
-        (4, 0, vec![], 1),
-        (4, 21635, doubled(14, 1), 1),
+        (6, 0, vec![], 1),
+        (6, 21635, doubled(14, 1), 1),
     ];
     for (code, margin, list, right) in rows {
         answered(tally, code, margin, list, right);

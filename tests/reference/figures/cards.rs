@@ -181,15 +181,15 @@ fn cut_differently(tally: &mut Tally) {
 
 /// Margins at both ends of the range, at each rate.
 fn settings(tally: &mut Tally) {
-    for code in [1, 2, 3] {
+    for rate in &RATES {
         let at = |margin| Setting {
             margin,
-            ..Setting::usual(code)
+            ..Setting::usual(rate.code)
         };
         let scripts = [1, 22314].map(|margin| of_chunk(at(margin), &[3000; 50]));
-        let name = format!("margins 1 and 22314 at code {code}");
+        let name = format!("margins 1 and 22314 at code {}", rate.code);
         let facts = ["margins differ", EQUAL, EQUAL_BACK];
-        let numbers = [0, i64::from(code), 0, 50];
+        let numbers = [0, i64::from(rate.code), 0, 50];
         row(tally, &name, [&scripts[0], &scripts[1]], numbers, &facts);
     }
 }

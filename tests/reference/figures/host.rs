@@ -36,15 +36,24 @@ fn row(tally: &mut Tally, records: &str, lines: &str) {
     tally.equal(&format!("host, {records}"), found.as_deref(), Some(lines));
 }
 
-/// No record, both, and both with each byte of the code changed in turn.
+/// No record, both, and both with each code that names a rate, with each of its bytes changed in
+/// turn, and with the codes next to them.
 fn codes(tally: &mut Tally) {
     row(tally, "", "");
-    let both = format!("{CHECK}\n{WRITE}");
-    row(tally, &both, "check 4\nwrite 4 a5a5a5\n");
-    for code in ["4", "2^8+1", "2^16+1", "2^24+1"] {
-        let other = both.replace("code=1", &format!("code={code}"));
-        row(tally, &other, "check 1\nwrite 1 a5a5a5\n");
+    for code in 1..=5 {
+        both(tally, &code.to_string(), 4);
+        for other in ["2^8", "2^16", "2^24"] {
+            both(tally, &format!("{other}+{code}"), 1);
+        }
     }
+    both(tally, "0", 1);
+    both(tally, "6", 1);
+}
+
+/// Checks the answer to both with a code.
+fn both(tally: &mut Tally, code: &str, r: u32) {
+    let both = format!("{CHECK}\n{WRITE}").replace("code=1", &format!("code={code}"));
+    row(tally, &both, &format!("check {r}\nwrite {r} a5a5a5\n"));
 }
 
 /// The write with a buffer of 512 bytes and with one of none.
@@ -55,14 +64,21 @@ fn buffers(tally: &mut Tally) {
     row(tally, &WRITE.replace("length=3", "length=0"), "write 4\n");
 }
 
-/// Checks of that block with its code and with another.
+/// Checks of such a block of each rate code, and of one that names no rate, with every code.
 fn checks(tally: &mut Tally) {
-    let block = block::make(1, 0, &[32767]);
-    for (code, line) in [(1, "check 0\n"), (2, "check 7\n")] {
-        let mut bytes = Vec::new();
-        Record::Check(code, block.clone()).write_for_host(&mut bytes);
-        let found = answers(&bytes);
-        tally.equal("host, a sound block", found.as_deref(), Some(line));
+    for own in 1..=6 {
+        let block = block::make(own, 0, &[32767]);
+        for code in 0..=6 {
+            let mut bytes = Vec::new();
+            Record::Check(code, block.clone()).write_for_host(&mut bytes);
+            let line = match code {
+                0 | 6 => "check 1\n",
+                _ if code == u32::from(own) => "check 0\n",
+                _ => "check 7\n",
+            };
+            let name = format!("host, a block of {own} with code {code}");
+            tally.equal(&name, answers(&bytes).as_deref(), Some(line));
+        }
     }
 }
 

@@ -91,7 +91,7 @@ fn lines(tally: &mut Tally) {
         Record::open(setting(2, 20955)),
         Record::Report,
         Record::open(setting(2, 0)),
-        Record::open(setting(4, 0)),
+        Record::open(setting(6, 0)),
         Record::Load(level.at_margin(20954)),
         Record::Report,
         Record::Load(level.at_margin(-1)),

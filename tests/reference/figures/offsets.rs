@@ -36,7 +36,7 @@ fn openings(tally: &mut Tally) {
             ..Meter::zero()
         };
         tally.equal("fresh", Meter::open(setting(2, offset)), (fresh, 0));
-        for code in [0, 4, 255] {
+        for code in [0, 6, 255] {
             let refused = Meter::open(setting(code, offset));
             tally.equal("refused", refused, (Meter::zero(), 1));
         }

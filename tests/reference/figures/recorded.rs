@@ -24,8 +24,9 @@ fn end(script: &[u8]) -> Vec<String> {
 /// A voice in a recording of blocks is measured as it is in chunks, and so is nothing.
 fn voices(tally: &mut Tally) {
     for rate in &RATES {
+        let voice = speech::voice(rate, 1);
         for length in [0, 1, 248, 4000] {
-            let samples = &speech::voice(rate, 1)[..length];
+            let samples = &voice[..length];
             let recording = block::pack(rate.code, samples);
             let by_block = end(&measurement::recorded(rate, &recording));
             let by_chunk = end(&speech::script(rate, samples));

@@ -170,7 +170,7 @@ fn lines(tally: &mut Tally) {
     };
     let records = script(&[
         Record::open(Setting::usual(1)),
-        Record::open(Setting::usual(4)),
+        Record::open(Setting::usual(6)),
         Record::Open(Opening {
             margin: 0,
             ..own.clone()

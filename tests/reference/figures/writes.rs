@@ -38,9 +38,13 @@ fn within(tally: &mut Tally) {
         (1, 0, 1, 512),
         (2, 0, 248, 512),
         (3, 1, 247, 512),
+        (4, 2, 246, 512),
+        (5, 3, 245, 512),
         (1, END - 1, 1, 512),
         (2, END - 2, 2, 512),
         (3, END - 248, 248, 512),
+        (4, END - 3, 3, 512),
+        (5, END - 247, 247, 512),
     ];
     for row in rows {
         let (r, buffer) = ones(row).answer();
@@ -105,6 +109,9 @@ fn kinds(tally: &mut Tally) {
         ((2, 0, 2, 512), None),
         ((2, 0, 248, 512), Some("written from 248 samples")),
         ((3, END - 2, 2, 512), Some("written with an end at 2^48")),
+        ((4, 0, 2, 512), None),
+        ((5, 0, 2, 512), None),
+        ((6, 0, 2, 512), None),
         ((0, 0, 1, 512), None),
         ((0, 0, 1, 3), None),
         ((0, 0, 0, 512), None),
@@ -145,7 +152,7 @@ fn occurrences(tally: &mut Tally) {
     let nothing = written(&[], "").expect("no record is bad");
     let missed = |name: &&String| name.ends_with(": 0 times");
     let found = nothing.failed().iter().filter(missed).count();
-    tally.equal("missed in nothing", found, 23);
+    tally.equal("missed in nothing", found, 25);
     let bad = written(&[0], "bad record 1");
     tally.holds("written by a bad record", bad.is_none());
 }

@@ -2,6 +2,7 @@
 
 use super::random::Random;
 use super::signals::noise;
+use super::CODES;
 use crate::block;
 
 /// Hands out blocks, each with a code: twice the one it is made for, then one of the others' turn.
@@ -20,7 +21,7 @@ pub fn all(seed: u64, count: u64, codes: &[u32], emit: &mut dyn FnMut(u32, &[u8]
         turn: 0,
         emit,
     };
-    for (own, samples) in [(1, 100), (2, 248), (3, 1)] {
+    for (own, samples) in [(1, 100), (2, 248), (3, 1), (4, 247), (5, 2)] {
         let base = sound(&mut blocks.random, own, 0, samples);
         blocks.add(own, &base);
         blocks.bits(own, &base);
@@ -73,7 +74,7 @@ impl Blocks<'_> {
         for kind in [0, 1, 2, 255] {
             self.add(own, &set(base, 0, &[kind]));
         }
-        for rate in [0, 1, 2, 3, 4, 5, 255] {
+        for rate in CODES {
             let bytes = set(base, 1, &[rate]);
             for &code in self.codes {
                 (self.emit)(code, &bytes);
@@ -178,7 +179,8 @@ fn damage_once(random: &mut Random, bytes: &mut Vec<u8>) {
         }
         2 => *bytes = set(bytes, 0, &[byte]),
         3 => {
-            let rate = random.pick(&[0, 1, 2, 3, 4, byte]);
+            let listed = random.pick(&CODES);
+            let rate = random.pick(&[listed, listed, listed, byte]);
             *bytes = set(bytes, 1, &[rate]);
         }
         4 => {

@@ -4,6 +4,7 @@ use super::meters::{falling, most_squares, plausible, MOST_ENVELOPE};
 use super::random::Random;
 use super::settings::{setting, REFUSED_MARGINS};
 use super::spacing::{edges, loading, longer, of_wrong_end, of_wrong_rise};
+use super::UNNAMED;
 use crate::meter::{Meter, MOST_SAMPLES};
 use crate::rate::rate;
 use crate::setting::{LEAST_MARGIN, MOST_MARGIN};
@@ -29,12 +30,8 @@ pub fn bounds(random: &mut Random, code: u8) -> Vec<Meter> {
 
 /// Rate codes, named and not.
 fn codes(random: &mut Random, code: u8) -> Vec<Meter> {
-    let with = |given| {
-        let mut meter = plausible(random, code);
-        meter.setting.code = given;
-        meter
-    };
-    [code, 0, 4, 5, 255].into_iter().map(with).collect()
+    let with = |given| plausible(random, code).at_code(given);
+    [code].into_iter().chain(UNNAMED).map(with).collect()
 }
 
 /// Offsets, of which refusal 2 says nothing: where totals and envelopes are at their bounds, and

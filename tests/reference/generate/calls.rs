@@ -11,11 +11,12 @@ use super::settings::{
 use super::signals::{around, furthest, noise, placed, signal};
 use super::spacing::edges;
 use super::thresholds::{approach, Target};
-use super::writes::{writing, CODES};
+use super::writes::writing;
+use super::{byte_codes, UNNAMED};
 use crate::block;
 use crate::meter::{Meter, MOST_IN_CHUNK, MOST_SAMPLES};
 use crate::percent::{difference, WHOLE};
-use crate::rate::rate;
+use crate::rate::{rate, RATES};
 use crate::records::Record;
 use crate::setting::{Opening, Setting};
 use crate::thresholds::Thresholds;
@@ -25,7 +26,7 @@ use crate::thresholds::Thresholds;
 /// exactly and just missed.
 pub fn calls(seed: u64, count: u64) -> Vec<u8> {
     let mut script = Script::new(seed);
-    let code = 1 + (seed % 3) as u8;
+    let code = RATES[seed as usize % RATES.len()].code;
     openings(&mut script, code);
     for meter in bounds(&mut script.random, code) {
         if script.records < count {
@@ -45,7 +46,7 @@ pub fn calls(seed: u64, count: u64) -> Vec<u8> {
 /// last leaves; then with lists at every edge, and with each choice of what is wrong.
 fn openings(script: &mut Script, named: u8) {
     for margin in MARGINS.into_iter().chain(REFUSED_MARGINS) {
-        for code in [0, named] {
+        for code in [script.random.pick(&UNNAMED), named] {
             let setting = setting(&mut script.random, code);
             let opening = opening(&mut script.random, Setting { margin, ..setting });
             script.add(Record::Open(opening));
@@ -94,8 +95,8 @@ fn step(script: &mut Script) {
         22..=37 => sound_block(script),
         38..=43 => refused_block(script),
         44..=53 => script.add(Record::Report),
-        54..=61 => script.add(Record::Show),
-        62..=65 => bursts(script),
+        54..=62 => script.add(Record::Show),
+        63..=65 => bursts(script),
         66 => pair(script),
         67 => two_words(script),
         68 => last_chunks(script),
@@ -120,9 +121,8 @@ fn hangover(script: &Script) -> u64 {
 /// An opening, mostly with a named code, a margin in the range and a list that loads, and what it
 /// leaves.
 fn open(script: &mut Script) {
-    let code = script
-        .random
-        .pick(&[1, 1, 1, 2, 2, 2, 3, 3, 3, 0, 4, 5, 255]);
+    let (named, unnamed) = (script.random.named(), script.random.pick(&UNNAMED));
+    let code = script.random.pick(&[named, named, unnamed]);
     let opening: Opening = if script.random.once_in(5) {
         refused_opening(&mut script.random, code)
     } else {
@@ -184,15 +184,17 @@ fn refused_block(script: &mut Script) {
 
 /// A block written, which changes no meter.
 fn write(script: &mut Script) {
-    let record = Record::Write(writing(&mut script.random, &CODES));
+    let record = Record::Write(writing(&mut script.random, &byte_codes()));
     script.add(record);
     script.add(Record::Show);
 }
 
-/// Noise, then a silence that outlasts envelope and hangover.
+/// Noise, then a silence that is longer than the hangover, and up to code 3 outlasts the envelope as
+/// well.
 fn bursts(script: &mut Script) {
     let (I, offset) = (hangover(script), script.meter().setting.offset);
-    let length = script.random.between(1, I) as usize;
+    let most = I.min(MOST_IN_CHUNK as u64);
+    let length = script.random.between(1, most) as usize;
     let noise = noise(&mut script.random, length);
     let burst = placed(&mut script.random, offset, noise);
     script.add(Record::Chunk(burst));

@@ -8,6 +8,7 @@ use super::signals::{
     placed, signal,
 };
 use super::spacing;
+use super::UNNAMED;
 use crate::meter::Meter;
 use crate::rate::{Rate, RATES};
 use crate::records::Record;
@@ -16,7 +17,7 @@ use crate::speech::voice;
 use crate::thresholds::{Thresholds, LENGTHS};
 use std::iter;
 
-/// About the most samples of a list.
+/// About the most samples of a list, but for those with a level at a rate, which takes more.
 const TOTAL: usize = 600;
 
 /// So few samples that the calls of a list take all of them, but for very few lists.
@@ -40,12 +41,14 @@ enum Purpose {
     Margin(i64),
     /// This level, or, where it is none, any below 0.
     Level(Option<i64>),
+    /// A level at this rate.
+    Rate(&'static Rate),
     /// Whatever comes of it.
     Any,
 }
 
 /// The purposes that have a list in their turn, beside the margins.
-const TURNS: [Purpose; 12] = [
+const TURNS: [Purpose; 16] = [
     Purpose::Refusal(12),
     Purpose::Refusal(13),
     Purpose::Refusal(14),
@@ -58,6 +61,10 @@ const TURNS: [Purpose; 12] = [
     Purpose::Level(Some(-1)),
     Purpose::Level(Some(-2)),
     Purpose::Level(Some(-3)),
+    Purpose::Rate(&RATES[1]),
+    Purpose::Rate(&RATES[2]),
+    Purpose::Rate(&RATES[3]),
+    Purpose::Rate(&RATES[4]),
 ];
 
 /// One list: an opening, so many calls, a show and a report; one seed in three has openings to refuse
@@ -79,13 +86,14 @@ pub fn list(seed: u64, count: u64) -> Vec<u8> {
     }
     let opening = settings::opening(&mut script.random, Setting { margin, ..usual });
     script.add(Record::Open(opening));
+    let most = 3 * samples.len().max(TOTAL) as u64 / count.max(1) + 1;
     let mut rest = &samples[..];
     for _ in 0..count {
         if script.random.once_in(4) {
             let record = script.refused();
             script.add(record);
         } else {
-            rest = accepted(&mut script, rest, count);
+            rest = accepted(&mut script, rest, most);
         }
     }
     script.add(Record::Show);
@@ -104,10 +112,12 @@ fn purpose(seed: u64) -> Purpose {
     }
 }
 
-/// The rate of a list: mostly that of code 1, and always where at others it would take more samples.
+/// The rate of a list: one time in two that of code 1, and always where at others it would take more
+/// samples.
 fn rate(random: &mut Random, purpose: Purpose) -> &'static Rate {
-    let any = random.pick(&[0, 0, 0, 0, 1, 2]);
+    let any = random.pick(&[0, 0, 0, 0, 1, 2, 3, 4]);
     match purpose {
+        Purpose::Rate(rate) => rate,
         Purpose::Refusal(15)
         | Purpose::TwoCrossings
         | Purpose::ThreeCrossings
@@ -157,23 +167,25 @@ fn samples(random: &mut Random, rate: &Rate, setting: Setting, purpose: Purpose)
         Purpose::Refusal(13) => vec![0; TOTAL],
         Purpose::Refusal(14) => (0..TOTAL).map(|_| random.once_in(16).into()).collect(),
         Purpose::Refusal(15) => too_quiet(random, at_zero),
-        Purpose::Refusal(_) => return loud(random, setting.offset),
+        Purpose::Refusal(_) => return loud(random, rate, setting.offset),
         Purpose::TwoCrossings => hum_and_shout(random),
         Purpose::ThreeCrossings => hum_and_exact_shout(1 << random.below(8)),
         Purpose::Speech => spoken(random, rate),
         Purpose::Margin(margin) => of_margin(random, Setting { margin, ..at_zero }),
         Purpose::Level(level) => of_level(random, at_zero, level),
+        Purpose::Rate(_) => steady(random, rate),
     };
     around(setting.offset, &samples)
 }
 
 /// The margin of a list whose samples lead to this meter: for refusal 15 d_0 is just negative, and
-/// others often have a d_j of 0 or next to it. Three crossings are made for the usual margin.
+/// others often have a d_j of 0 or next to it. Three crossings are made for the usual margin, and so
+/// is the level at a rate.
 fn margin(random: &mut Random, meter: &Meter, purpose: Purpose) -> i64 {
     match purpose {
         Purpose::Margin(margin) => margin,
         Purpose::Level(level) => below_zero(meter, level).expect("it was tried"),
-        Purpose::ThreeCrossings => USUAL_MARGIN,
+        Purpose::ThreeCrossings | Purpose::Rate(_) => USUAL_MARGIN,
         Purpose::TwoCrossings => settings::of_several(random, meter),
         Purpose::Refusal(15) => settings::above_first(meter).expect("it was tried"),
         _ if random.once_in(2) => settings::near_crossing(random, meter),
@@ -195,7 +207,8 @@ fn refused_openings(script: &mut Script, named: u8, turn: u64) {
     let margin = REFUSED_MARGINS[turn as usize % REFUSED_MARGINS.len()];
     let [length, rise, end] = [0, 1, 2].map(|place| (turn % 7 + 1) >> place & 1 == 1);
     let list = Some(spacing::with_faults(&mut script.random, length, rise, end));
-    for code in [0, named] {
+    let unnamed = UNNAMED[turn as usize % UNNAMED.len()];
+    for code in [unnamed, named] {
         let right = Opening::from(settings::setting(&mut script.random, code));
         let of_margin = Opening {
             margin,
@@ -257,9 +270,10 @@ fn of_margin(random: &mut Random, setting: Setting) -> Vec<i16> {
     tried(signal, has_level, "a level at the margin")
 }
 
-/// A few of the loudest samples, the last of them as far from the offset as a sample can be.
-fn loud(random: &mut Random, offset: i16) -> Vec<i16> {
-    let few = random.below(8) as usize;
+/// The loudest samples for a hundredth of a second or so at the most, the last of them as far from
+/// the offset as a sample can be.
+fn loud(random: &mut Random, rate: &Rate, offset: i16) -> Vec<i16> {
+    let few = random.below(rate.samples_per_second / 80) as usize;
     let mut samples = full_scale(random, few);
     samples.push(furthest(offset));
     samples
@@ -270,6 +284,13 @@ fn spoken(random: &mut Random, rate: &Rate) -> Vec<i16> {
     let voice = voice(rate, random.next());
     let start = random.below((voice.len() - TOTAL) as u64) as usize;
     voice[start..start + TOTAL].to_vec()
+}
+
+/// Samples of one size for 0.075 s, in which the envelope comes to 0.7 of it.
+fn steady(random: &mut Random, rate: &Rate) -> Vec<i16> {
+    let size = random.between(1000, 32767) as i16;
+    let length = rate.samples_per_second * 75 / 1000;
+    (0..length).map(|_| random.pick(&[size, -size])).collect()
 }
 
 /// Two signals, one that takes it all, or one that grazes a threshold.
@@ -284,9 +305,9 @@ fn any_samples(random: &mut Random, setting: Setting) -> Vec<i16> {
     placed(random, offset, samples)
 }
 
-/// A chunk or a block of the signal's next samples; gives the samples left.
-fn accepted<'a>(script: &mut Script, rest: &'a [i16], count: u64) -> &'a [i16] {
-    let wanted = script.random.between(0, 3 * TOTAL as u64 / count + 1) as usize;
+/// A chunk or a block of the signal's next samples, so many at the most; gives the samples left.
+fn accepted<'a>(script: &mut Script, rest: &'a [i16], most: u64) -> &'a [i16] {
+    let wanted = script.random.between(0, most) as usize;
     let (taken, rest) = rest.split_at(wanted.min(rest.len()));
     let record = script.taken(taken);
     script.add(record);

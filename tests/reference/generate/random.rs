@@ -1,5 +1,6 @@
 //! Random numbers that a seed determines (splitmix64).
 
+use crate::rate::RATES;
 use std::f64::consts::TAU;
 
 /// The generator's state.
@@ -54,7 +55,7 @@ impl Random {
 
     /// A named code.
     pub fn named(&mut self) -> u8 {
-        self.between(1, 3) as u8
+        self.pick(&RATES).code
     }
 
     /// A fraction from 0 up to but not including 1, in 53 bits.

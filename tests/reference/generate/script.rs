@@ -3,6 +3,7 @@
 use super::blocks::{damage, sound};
 use super::random::Random;
 use super::signals::{noise, placed};
+use super::CODES;
 use crate::block;
 use crate::meter::Meter;
 use crate::records::Record;
@@ -61,10 +62,7 @@ impl Script {
     /// A block that fits the meter but for its rate code.
     pub fn of_another_rate(&mut self) -> Vec<u8> {
         let (code, n) = (self.meter().setting.code, self.meter().n);
-        let others: Vec<u8> = [0, 1, 2, 3, 4, 255]
-            .into_iter()
-            .filter(|&c| c != code)
-            .collect();
+        let others: Vec<u8> = CODES.into_iter().filter(|&other| other != code).collect();
         let other = self.random.pick(&others);
         let samples = self.random.between(1, 248);
         sound(&mut self.random, other, n, samples)

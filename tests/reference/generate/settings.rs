@@ -3,6 +3,7 @@
 
 use super::random::Random;
 use super::spacing::{self, thresholds};
+use super::UNNAMED;
 use crate::meter::Meter;
 use crate::setting::{
     in_range, Opening, Setting, LEAST_MARGIN, MARKED_BELOW, MOST_MARGIN, USUAL_MARGIN,
@@ -97,7 +98,8 @@ pub fn refused_opening(random: &mut Random, code: u8) -> Opening {
 pub fn faulty_openings(random: &mut Random, named: u8) -> Vec<Opening> {
     let with = |choice: u32| {
         let fault = |place: u32| choice >> place & 1 == 1;
-        let code = if fault(0) { 4 } else { named };
+        let unnamed = random.pick(&UNNAMED);
+        let code = if fault(0) { unnamed } else { named };
         let setting = setting(random, code);
         let wrong = refused_margin(random);
         let margin = if fault(1) { wrong } else { setting.margin };

@@ -34,7 +34,7 @@ impl Kind {
     pub fn rate(self, random: &mut Random) -> &'static Rate {
         match self {
             Kind::Steady | Kind::Hump => &RATES[0],
-            _ => &RATES[random.pick(&[0, 0, 0, 1, 2])],
+            _ => &RATES[random.pick(&[0, 0, 0, 1, 2, 3, 4])],
         }
     }
 

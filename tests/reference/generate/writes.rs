@@ -1,15 +1,13 @@
 //! Blocks to write, accepted and refused, and to read back.
 
 use super::blocks::{sound, tuned};
+use super::byte_codes;
 use super::meters::of_samples;
 use super::random::Random;
 use super::signals::noise;
 use crate::block;
 use crate::meter::MOST_SAMPLES;
 use crate::records::{script, Record, Writing};
-
-/// Codes of one byte, named and not.
-pub const CODES: [u32; 6] = [1, 2, 3, 0, 4, 255];
 
 /// Numbers of samples: none, at the bounds, next to them, such that the low byte alone is within
 /// them, and many.
@@ -31,7 +29,7 @@ pub fn writes(seed: u64, count: u64) -> Vec<u8> {
             out.extend(script(&read_back(random, writing, bytes)));
         }
     };
-    Writes::new(seed, &CODES, &mut emit).all(count);
+    Writes::new(seed, &byte_codes(), &mut emit).all(count);
     out
 }
 

@@ -21,7 +21,7 @@ type Kind = (&'static str, fn(&Write) -> bool);
 /// first of several; check words at the ends of their range.
 ///
 /// The words of a block never sum up to 0, so that a check word of 0 is that of a multiple of 65535.
-pub const KINDS: [Kind; 20] = [
+pub const KINDS: [Kind; 22] = [
     ("refused with 1", |w| w.r == 1),
     ("refused with 4", |w| w.r == 4),
     ("refused with 18", |w| w.r == 18),
@@ -47,6 +47,8 @@ pub const KINDS: [Kind; 20] = [
     ("written at code 1", |w| w.r == 0 && w.writing.code == 1),
     ("written at code 2", |w| w.r == 0 && w.writing.code == 2),
     ("written at code 3", |w| w.r == 0 && w.writing.code == 3),
+    ("written at code 4", |w| w.r == 0 && w.writing.code == 4),
+    ("written at code 5", |w| w.r == 0 && w.writing.code == 5),
     ("written from 1 sample", |w| w.r == 0 && w.count() == 1),
     ("written from 248 samples", |w| w.r == 0 && w.count() == 248),
     ("written with an end at 2^48", |w| {

@@ -1,0 +1,152 @@
+//! The figures of the rates (the customer's scope, "Rates"), the error of the envelope at any K (the
+//! customer's request L9), and what `codes` tells of scripts.
+
+use super::handed_in;
+use crate::codes::codes;
+use crate::exact::Exact;
+use crate::generate::random::Random;
+use crate::generate::signals::{placed, signal};
+use crate::meter::Meter;
+use crate::rate::{rate, Rate, RATES};
+use crate::records::{script, Record};
+use crate::setting::Setting;
+use crate::tally::Tally;
+
+/// K at both ends of the range for which the error is stated, next to them, and between.
+const KS: [u64; 9] = [
+    1,
+    2,
+    100,
+    16384,
+    99999,
+    1 << 19,
+    1000000,
+    (1 << 20) - 1,
+    1 << 20,
+];
+
+/// How many signals are measured at each K, and how many samples each has.
+const SIGNALS: usize = 8;
+const SAMPLES: usize = 300;
+
+/// Every figure.
+pub fn rates(tally: &mut Tally) {
+    table(tally);
+    codes_named(tally);
+    time_constants(tally);
+    envelopes(tally);
+    widest(tally);
+    lines(tally);
+}
+
+/// The table of rates with D, and I by its rule.
+fn table(tally: &mut Tally) {
+    let row = |rate: &Rate| (rate.code, rate.samples_per_second, rate.K, rate.I, rate.D());
+    let found: Vec<_> = RATES.iter().map(row).collect();
+    let expected = vec![
+        (1, 694, 49174, 139, 43),
+        (2, 8000, 4360, 1600, 481),
+        (3, 16000, 2182, 3200, 962),
+        (4, 32000, 1092, 6400, 1921),
+        (5, 48000, 728, 9600, 2881),
+    ];
+    tally.equal("the table of rates", found, expected);
+    for rate in &RATES {
+        tally.equal("I by its rule", rate.I_by_rule(), rate.I);
+    }
+}
+
+/// The codes that name a rate, and those next to them and beyond a byte.
+fn codes_named(tally: &mut Tally) {
+    let codes = (0..=1024).chain([65537, 1 << 24, u32::MAX]);
+    let named: Vec<u32> = codes.filter(|&code| rate(code).is_some()).collect();
+    tally.equal("codes that name a rate", named, vec![1, 2, 3, 4, 5]);
+}
+
+/// T within its tolerance at each rate, also with a K that is 4 % smaller or larger, and not with
+/// one that is 6 % smaller or larger (the customer's scope, "Rates").
+fn time_constants(tally: &mut Tally) {
+    let rows = [
+        (94, false),
+        (96, true),
+        (100, true),
+        (104, true),
+        (106, false),
+    ];
+    for rate in &RATES {
+        for (percent, kept) in rows {
+            let K = (rate.K * percent + 50) / 100;
+            let found = Rate { K, ..*rate }.keeps_time_constant();
+            let name = format!("rate {}: T within 5 % with K {K}", rate.code);
+            tally.equal(&name, found, kept);
+        }
+    }
+}
+
+/// A fresh meter and E, both before any sample.
+fn fresh(rate: &Rate, offset: i16) -> (Meter, Exact) {
+    let setting = Setting {
+        offset,
+        ..Setting::usual(rate.code)
+    };
+    (Meter::open(setting).0, Exact::open(rate, offset))
+}
+
+/// The error of the envelope after each sample of some signals, at the five rates and at any K (the
+/// customer's request L9).
+fn envelopes(tally: &mut Tally) {
+    let any = KS.map(|K| Rate { K, ..RATES[0] });
+    let mut random = Random::new(9);
+    for rate in RATES.iter().chain(&any) {
+        for _ in 0..SIGNALS {
+            let offset = random.offset();
+            let samples = signal(&mut random, RATES[0].I, SAMPLES);
+            let samples = placed(&mut random, offset, samples);
+            let (mut meter, mut exact) = fresh(rate, offset);
+            let holds = samples.iter().all(|&x| {
+                meter.sample(rate, x);
+                exact.chunk(&[x]) && exact.envelope(meter.Q)
+            });
+            tally.holds(&format!("the envelope's error at K {}", rate.K), holds);
+        }
+    }
+}
+
+/// 500 ones and then 31417 at code 1: q is D - 1 or more above Q, so that no smaller D would do. At
+/// a K of 2^20 nothing is rounded, and Q is q.
+fn widest(tally: &mut Tally) {
+    let whole = Rate {
+        K: 1 << 20,
+        ..RATES[0]
+    };
+    for (rate, error) in [(&RATES[0], 42), (&whole, 0)] {
+        let (mut meter, mut exact) = fresh(rate, 0);
+        for x in [&[1; 500][..], &[31417]].concat() {
+            meter.sample(rate, x);
+            exact.chunk(&[x]);
+        }
+        let at_least = [error, error + 1].map(|units| exact.envelope(meter.Q + units));
+        tally.equal("the widest error", at_least, [true, false]);
+    }
+}
+
+/// What is told of openings and of meters handed in; a meter that is refused for more than its code
+/// has no line.
+fn lines(tally: &mut Tally) {
+    let level = handed_in(16384, 1 << 30, &[4096; 8]);
+    let impossible = Meter {
+        n: 0,
+        ..level.clone()
+    };
+    let records = script(&[
+        Record::open(Setting::usual(4)),
+        Record::Report,
+        Record::open(Setting::usual(6)),
+        Record::Load(level.at_code(5)),
+        Record::Load(level.at_code(6)),
+        Record::Load(impossible.at_code(7)),
+    ]);
+    let expected = "load 5 0\nload 6 2\nopen 4 0\nopen 6 1\n";
+    tally.equal("codes told", codes(&records).as_deref(), Some(expected));
+    tally.equal("codes of a bad record", codes(&[4, 0]), None);
+}
