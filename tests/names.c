@@ -1,5 +1,6 @@
 /* Every name that include/hoggetwhirl.h has: makes and checks blocks so that each answer is given,
- * and ends with the number of the first that is not the one named. */
+ * at each rate code and past the last, and ends with the number of the first that is not the one
+ * named. */
 #include "hoggetwhirl.h"
 
 #ifndef HOGGETWHIRL_VERSION
@@ -7,6 +8,7 @@
 #endif
 
 #define LAST_BYTE (HOGGETWHIRL_BLOCK_BYTES - 5) /* the last that may be unused */
+#define LAST_CODE 5 /* the last that names a rate */
 
 static uint8_t block[HOGGETWHIRL_BLOCK_BYTES + 1];
 static int16_t samples[HOGGETWHIRL_BLOCK_SAMPLES + 1];
@@ -66,7 +68,18 @@ static int checks(void) {
     return checked(2, HOGGETWHIRL_BLOCK_BYTES) == HOGGETWHIRL_BLOCK_CHECK ? 0 : 12;
 }
 
+static int codes(void) {
+    uint32_t code;
+    for (code = 1; code <= LAST_CODE; code++)
+        if (made(code, 1, HOGGETWHIRL_BLOCK_BYTES) != HOGGETWHIRL_ACCEPTED ||
+            checked(code, HOGGETWHIRL_BLOCK_BYTES) != HOGGETWHIRL_ACCEPTED)
+            return 13;
+    if (made(code, 1, HOGGETWHIRL_BLOCK_BYTES) != HOGGETWHIRL_UNNAMED_RATE) return 14;
+    return checked(code, HOGGETWHIRL_BLOCK_BYTES) == HOGGETWHIRL_UNNAMED_RATE ? 0 : 15;
+}
+
 int main(void) {
     int wrong = makes();
-    return wrong ? wrong : checks();
+    if (!wrong) wrong = checks();
+    return wrong ? wrong : codes();
 }
