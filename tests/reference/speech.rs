@@ -27,9 +27,9 @@ const LONG_TERM_BOUND: f64 = 2.0 * STEP;
 /// near the margin, the line is no steeper than a third and the crossing moves by at most half as
 /// much again as the line: together less than 4.3 steps, 0.0032 dB. The factor is no further off,
 /// since an error of lev(sq) is in both its levels. The rest of the bound is for counts that
-/// differ by a sample here and there, as K is within 0.02 % of the exponential. Over speech of
+/// differ by a sample here and there, as K is within 0.03 % of the exponential. Over speech of
 /// several voices at all rates, and over rare speech with hum under it, the difference stayed below
-/// 0.002 dB.
+/// 0.002 dB; over 24 voices and 16 lines with hum at each of codes 4 and 5, below 0.0011 dB.
 ///
 /// One thing could go beyond: an envelope whose peak reaches a threshold in one meter and just
 /// misses it in the other, which is a whole hangover of difference. The more is spoken, the less

@@ -63,8 +63,15 @@ fn codes_named(tally: &mut Tally) {
     tally.equal("codes that name a rate", named, vec![1, 2, 3, 4, 5]);
 }
 
+/// 2^20 (1 - g) to the nearest whole number, with the g of P.56 for a T of 0.03 s.
+fn K_of(rate: &Rate) -> u64 {
+    let g = (-1.0 / (rate.samples_per_second as f64 * 0.03)).exp();
+    ((1 << 20) as f64 * (1.0 - g)).round() as u64
+}
+
 /// T within its tolerance at each rate, also with a K that is 4 % smaller or larger, and not with
-/// one that is 6 % smaller or larger (the customer's scope, "Rates").
+/// one that is 6 % smaller or larger (the customer's scope, "Rates"). The K of the table is the one
+/// nearest to the exponential.
 fn time_constants(tally: &mut Tally) {
     let rows = [
         (94, false),
@@ -74,6 +81,7 @@ fn time_constants(tally: &mut Tally) {
         (106, false),
     ];
     for rate in &RATES {
+        tally.equal("K by the exponential", K_of(rate), rate.K);
         for (percent, kept) in rows {
             let K = (rate.K * percent + 50) / 100;
             let found = Rate { K, ..*rate }.keeps_time_constant();

@@ -39,11 +39,14 @@ const CLOSE: u32 = 512;
 
 /// How far from the level at the crossing so searched for that with the finer list may be, in
 /// decibels. Over a hundred seeds at code 1, 24 at code 2 and 16 at code 3 it was at most 0.031,
-/// 0.008 and 0.004, and 0.005, 0.002 and 0.001 on the average.
+/// 0.008 and 0.004, and 0.005, 0.002 and 0.001 on the average; over 24 each at codes 4 and 5 at most
+/// 0.007 and 0.039, and 0.002 and 0.004 on the average.
 const NEAR: f64 = 0.1;
 
 /// How far from it the level with the built-in list is at least. Over those seeds it was 0.55 to
-/// 1.15, 0.69 to 0.94 and 0.60 to 1.11 too low, and 0.85, 0.82 and 0.83 on the average.
+/// 1.15, 0.69 to 0.94 and 0.60 to 1.11 too low, and 0.85, 0.82 and 0.83 on the average; at codes 4
+/// and 5 it was 0.68 to 1.03 and, but for one seed of 0.39, 0.53 to 0.94, and 0.83 and 0.76 on the
+/// average.
 const FAR: f64 = 0.5;
 
 /// An operator's list: the built-in thresholds, and three more in each doubling from 4 intervals to

@@ -40,14 +40,16 @@ const ENERGY: f64 = 6.0;
 /// By P.56, clause 9, readings within 1 dB of those of method B make a method equivalent to it.
 /// Most of that is for the energy of the hum, which is in the sum of squares: it lifts every level
 /// by 10 log(1 + 1/6), 0.67 dB. The rest is for hum that lifts the envelope of the speech over a
-/// threshold, or holds it under one. Over a hundred seeds the two came to 0.54 to 0.73 dB.
+/// threshold, or holds it under one. Over a hundred seeds the two came to 0.54 to 0.73 dB, and over
+/// 16 each at codes 4 and 5 to 0.55 to 0.69 and 0.61 to 0.72.
 const NEAR: f64 = 1.0;
 
 /// How far from the speech alone the level at the lowest crossing is at least, in decibels.
 ///
 /// There all the time is active. Of the speech at most five phrases are, none of them for longer
 /// than 3.3 s: eight syllables of 0.3 s and pauses of 0.06 s, the envelope's fall, the hangover.
-/// That is 12.6 dB too low a level, of which the energy of the hum makes up 0.67 dB.
+/// That is 12.6 dB too low a level, of which the energy of the hum makes up 0.67 dB. Over those
+/// seeds at codes 4 and 5 it was 15.3 dB or more.
 const FAR: f64 = 10.0;
 
 /// The line of a seed.

@@ -38,11 +38,12 @@ const SMALLER: (i64, bool) = (13606, true);
 /// The energy of the noise, which is in the sum of squares, lifts it by 10 log(1 + 1/4), 0.97 dB.
 /// The rest is for the higher threshold, at which less of the speech is active. Over a hundred seeds
 /// at code 1 the two came to 1.18 to 1.84 dB, but for one seed with a syllable so loud that it has a
-/// crossing of its own.
+/// crossing of its own; over 24 each at codes 4 and 5 to 1.20 to 1.76 and 1.28 to 1.83.
 const NEAR: f64 = 2.0;
 
 /// How far from the speech alone the level at the usual margin is at least, in decibels: it is that
-/// of all the time, of which the speech takes about a seventh. Over those seeds it was 5.95 to 8.18.
+/// of all the time, of which the speech takes about a seventh. Over those seeds it was 5.95 to 8.18,
+/// 6.14 to 7.81 and 6.20 to 7.85.
 const FAR: f64 = 5.0;
 
 /// The line of a seed.
@@ -75,8 +76,9 @@ pub fn script(rate: &Rate, seed: u64) -> Vec<u8> {
 ///
 /// The reason of the bound holds here as well: M is the same number of steps in floating point, and
 /// the count falls by no more than a third from the lower threshold to the upper. Over a hundred
-/// seeds at code 1, 24 at code 2 and 16 at code 3 it fell by less than 0.04 % at the usual margin and
-/// less than 30 % at the smaller one, and the difference stayed below 0.0008 dB and 0.0015 dB.
+/// seeds at code 1, 24 at each of codes 2, 4 and 5 and 16 at code 3 it fell by less than 0.04 % at
+/// the usual margin and less than 30 % at the smaller one, and the difference stayed below 0.0008 dB
+/// and 0.0015 dB.
 fn measured<'a>(
     tally: &mut Tally,
     lines: &mut impl Iterator<Item = &'a str>,
