@@ -9,7 +9,8 @@
 extern "C" {
 #endif
 
-/* Grows by 1 with each change of what this header declares or says. Rate codes 4 and 5 are 3's. */
+/* Grows by 1 where something that this header declares or promises is added or changed. From 3 on
+ * the codes 4 and 5 name rates. */
 #define HOGGETWHIRL_VERSION 3
 
 /* How many bytes a sample block has, and how many samples it holds at most. */

@@ -40,7 +40,8 @@ use Rattle.exact.specs.Lists.{called, accepted, after, answers, taken}
 use Rattle.thresholds.specs.Lists.{builtIn, wrongLength, wrongEntry, wrongEnd, unloadable, listRules}
 use Rattle.thresholds.proofs.Below.{neither}
 use Rattle.thresholds.proofs.Laws.{built-in-loads, loaded, rising}
-use Rattle.exact.proofs.Tied.{by, Tied, same-code, same-K, same-I, same-o, total, tied-samples, tied-fresh}
+use Rattle.exact.proofs.Envelope.{same-K}
+use Rattle.exact.proofs.Tied.{by, Tied, same-code, same-I, same-o, total, tied-samples, tied-fresh}
 
 -- ---- the invariant
 

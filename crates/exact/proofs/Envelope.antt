@@ -2,16 +2,14 @@
 -- input within l·G/K below its exact one
 -- keeps what is within (l + 1)·G/K there. So P stays within G/K of p, and Q within 2·G/K of q: one law twice. G is written R + K, and the floor's
 -- result is a variable, so that nothing is subtracted or divided.
-use mathlib.Core.Bool.{true}
 use mathlib.Core.List.{List, [], _∷_}
-use mathlib.Core.Path.{_≡_, refl, sym, subst}
+use mathlib.Core.Path.{_≡_, refl, sym, _∙_, subst}
 use Prim.Native.Nat.{ℕ, suc, _+_, _*_, _-_, _/_, _^_, _≤_, _<_}
 use native.Mathlib.Nat.{div-mul-le-self, lt-div-mul-add, mul-le-mul-right, mul-lt-mul-of-pos-right, lt-of-mul-lt-mul-right, mul-pos, sub-add-cancel, le-refl, le-of-lt, le-trans, lt-of-le-of-lt}
 use native.Mathlib.Omega.{arith}
 use lib.Dec.{lit<}
 use lib.IntN.{ℤ}
-use Rattle.rate.specs.Rates.{Ceiling, isNamed, rowOf}
-use Rattle.rate.proofs.Laws.{row-keeps}
+use Rattle.rate.specs.Rates.{Ceiling}
 use Rattle.thresholds.specs.declared.Thresholds.{Thresholds}
 use Rattle.sample.specs.declared.State.{State}
 use Rattle.sample.specs.Envelope.{smooth, size, rectified}
@@ -128,11 +126,15 @@ unfolding stateAfter stateAfterOne summed takeAll takeOne
 follows T [] m e k0 kG f = f
 follows T (x ∷ xs) m e k0 kG f = follows T xs (stateAfterOne (record { k = e .K; i = e .I; offset = e .o }) T m x) (takeOne e x) k0 kG (follows-one (m .sums .p) (m .sums .q) e x k0 kG f)
 
--- E keeps its K
-same-K : (xs : List ℤ) (e : E) → takeAll e xs .K ≡ e .K
-unfolding takeAll takeOne
-same-K [] e = refl
-same-K (x ∷ xs) e = same-K xs (takeOne e x)
+-- what one sample does not change in E, samples in order do not; so it keeps its K
+pub kept : {A : Type 0} (f : E → A) → ((e : E) (x : ℤ) → f (takeOne e x) ≡ f e) → (xs : List ℤ) (e : E) → f (takeAll e xs) ≡ f e
+unfolding takeAll
+kept f same [] e = refl
+kept f same (x ∷ xs) e = kept f same xs (takeOne e x) ∙ same e x
+
+pub same-K : (xs : List ℤ) (e : E) → takeAll e xs .K ≡ e .K
+unfolding takeOne
+same-K = kept (λ e. e .K) (λ e x. refl)
 
 pub envelope-bound : (t : Thresholds) (K I D : ℕ) (o : ℤ) (xs : List ℤ) → 1 ≤ K → K ≤ 2 ^ 20 → Ceiling (2 ^ 21) K D → EnvelopeBound t K I D o xs
 unfolding startAt freshState
@@ -143,9 +145,3 @@ envelope-bound t K I D o xs k0 kG d =
       never-above = f .q .low;
       less-than-D = near-below (2 ^ 20) (takeAll e xs .K) 2 _ _ _ D (subst (λ (k : ℕ). 2 ^ 21 ≤ D * k) (sym (same-K xs e)) (d .not-below)) (f .q);
     }
-
--- each named rate is a use of it
-pub at-named-rate : (code : ℕ) → isNamed code ≡ true → (t : Thresholds) (o : ℤ) (xs : List ℤ) → let r = rowOf code in EnvelopeBound t (r .k) (r .i) (r .d) o xs
-at-named-rate code n t o xs =
-    let r = row-keeps code n in
-    envelope-bound t _ _ _ o xs (r .k-low) (r .k-high) (r .d-rule)

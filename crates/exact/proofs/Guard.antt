@@ -42,7 +42,7 @@ use Rattle.meter.proofs.Laws.{level-or-refusal}
 use Rattle.meter.proofs.Only.{untouched-once}
 use Rattle.exact.specs.Calls.{Call, chunk, block, Typed}
 use Rattle.exact.specs.Demands.{Opens, meterAfter, reportAfter, answersTo, takenFrom, exactAt, exactAfter, countAt, sum, sumOfSquares, NothingLost, Demand3}
-use Rattle.exact.specs.Envelope.{envelopeAfter, exactEnvelopeAfter}
+use Rattle.exact.specs.Envelope.{envelopeAfter, exactEnvelopeAfter, EnvelopeBound}
 use Rattle.exact.specs.Exact.{E, answersOfE, took}
 use Rattle.exact.specs.Fractions.{AtLeast, LessThan}
 use Rattle.exact.specs.Lists.{called, after}
@@ -328,7 +328,7 @@ module _ (m : Meter) (ok : impossible m ≡ false) where
   of-T : levelOf 10000 ≡ some (pos (lev 10000))
   of-T = claim .levels-exist m ok .of-T 10000 (lit≤ tt) (lit≤ tt)
 
--- the smoothing time at whatever rate, since at a code that is given it would be worked out and not taken from the claim; I and D at the last
+-- the smoothing time at any rate: at a given code it would be worked out, and not taken from the claim; then I and D at the last
 in-time : (code : ℕ) → isNamed code ≡ true → keepsTime (rowOf code .hertz) (rowOf code .k) ≡ true
 in-time code n = claim .rates code n .time-rule
 
@@ -350,6 +350,10 @@ slow-and-fast I xs = (claim .envelope builtIn 1 I (2 ^ 21) lowest xs (lit≤ tt)
 
     fast : Ceiling (2 ^ 21) (2 ^ 20) 2
     fast = record { not-below = lit≤ tt; smallest = λ x h. omega (arith, h) }
+
+-- L9's "of which the five rates are uses"
+at-each-rate : (code : ℕ) → isNamed code ≡ true → (xs : List ℤ) → let r = rowOf code in EnvelopeBound builtIn (r .k) (r .i) (r .d) lowest xs
+at-each-rate code n xs = let r = claim .rates code n in claim .envelope builtIn _ _ _ lowest xs (r .k-low) (r .k-high) (r .d-rule)
 
 never-over : (K I D : ℕ) (xs : List ℤ) → 1 ≤ K → K ≤ 2 ^ 20 → Ceiling (2 ^ 21) K D → AtLeast (exactEnvelopeAfter K I lowest xs) (envelopeAfter builtIn K I lowest xs)
 never-over K I D xs l u d = claim .envelope builtIn K I D lowest xs l u d .never-above

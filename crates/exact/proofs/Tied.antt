@@ -30,7 +30,7 @@ use Rattle.thresholds.proofs.Places.{each-at, up-to-at, up-to-past, filled-at}
 use Rattle.sample.proofs.Signs.{small, size-small}
 use Rattle.signed.proofs.Sizes.{abs-sum}
 use Rattle.exact.specs.Exact.{E, startAt, distance, reaches, countNext, hangoverNext, takeOne, takeAll}
-use Rattle.exact.proofs.Envelope.{Follows, follows-one, follows-first, then-exact, then-rounded}
+use Rattle.exact.proofs.Envelope.{Follows, kept, follows-one, follows-first, then-exact, then-rounded}
 
 -- what E counts by, as the meter holds it
 abbrev pub by : E → Counting
@@ -38,18 +38,9 @@ by e = record { k = e .K; i = e .I; offset = e .o }
 
 -- ---- what E keeps: what one sample leaves as it was, all of them do
 
-kept : {A : Type 0} (f : E → A) → ((e : E) (x : ℤ) → f (takeOne e x) ≡ f e) → (xs : List ℤ) (e : E) → f (takeAll e xs) ≡ f e
-unfolding takeAll
-kept f same [] e = refl
-kept f same (x ∷ xs) e = kept f same xs (takeOne e x) ∙ same e x
-
 pub same-code : (xs : List ℤ) (e : E) → takeAll e xs .code ≡ e .code
 unfolding takeOne
 same-code = kept (λ e. e .code) (λ e x. refl)
-
-pub same-K : (xs : List ℤ) (e : E) → takeAll e xs .K ≡ e .K
-unfolding takeOne
-same-K = kept (λ e. e .K) (λ e x. refl)
 
 pub same-I : (xs : List ℤ) (e : E) → takeAll e xs .I ≡ e .I
 unfolding takeOne

@@ -1,5 +1,5 @@
--- The whole claim: the customer's three demands, what his scope says beside them of the logarithm and of the rates, and of his requests the one that is a
--- theorem of its own. Each is stated where it is imported from. What is in quotes are his words.
+-- The whole claim: the customer's three demands, what his scope says beside them of the logarithm and of the rates, and of his requests the two that are
+-- theorems of their own. Each is stated where it is imported from. What is in quotes are his words.
 use mathlib.Core.Bool.{true, false}
 use mathlib.Core.List.{List}
 use mathlib.Core.Path.{_≡_}

@@ -1,4 +1,4 @@
--- The envelope's error, for any K, any I, any offset and any samples from a fresh start. The count bounds of demand 3 rest on it.
+-- The envelope's error, for any K, any I, any offset and any samples from a fresh start. The count bounds of demand 3 rest on the same law of one sample.
 use mathlib.Core.List.{List}
 use Prim.Native.Nat.{ℕ, _+_}
 use lib.IntN.{ℤ}

@@ -93,7 +93,7 @@ superWideband = blockWith 1 4 3 0 three 768 33311
 unfoldable pub fullBand : List ℕ
 fullBand = blockWith 1 5 3 0 three 1024 32800
 
--- 7 at every code, and not sound: rate code 6
+-- 7 at every named code, and not sound: rate code 6
 unfoldable pub unnamedRate : List ℕ
 unnamedRate = blockWith 1 6 3 0 three 1280 32289
 

@@ -175,7 +175,7 @@ faults =
     ∷ chunk (replicate 4096 (pos 0))
     ∷ []
 
--- Numbers, samples, reports, runs of calls and E
+-- Rates, levels, percentages, samples, reports, runs of calls and E
 unfoldable pub measuring : List Row
 measuring =
     rate 1 694 49174 139 43
@@ -183,17 +183,6 @@ measuring =
     ∷ rate 3 16000 2182 3200 962
     ∷ rate 4 32000 1092 6400 1921
     ∷ rate 5 48000 728 9600 2881
-    -- the smoothing time at each rate; and with the least K and the largest that keep it, at the first rate and at the last
-    ∷ timed 694 49174
-    ∷ timed 8000 4360
-    ∷ timed 16000 2182
-    ∷ timed 32000 1092
-    ∷ timed 48000 728
-    ∷ timed 694 48762
-    ∷ timed 694 51139
-    ∷ timed 48000 694
-    ∷ timed 48000 766
-    -- lev, and one sample
     ∷ level 1 0
     ∷ level 2 4096
     ∷ level 3 6492
@@ -264,6 +253,16 @@ measuring =
     ∷ sampled (usualSetting 5) (pos 32767 ∷ []) 381670016 264983 [] 14
     ∷ counted (usualSetting 4) (constant (pos 32767) 40) (threshold 3) 20
     ∷ counted (usualSetting 5) (constant (pos 32767) 40) (threshold 3) 9
+    -- the smoothing time at each rate; and with the least K and the largest that pass, which at 694 are not all that keep it
+    ∷ timed 694 49174
+    ∷ timed 8000 4360
+    ∷ timed 16000 2182
+    ∷ timed 32000 1092
+    ∷ timed 48000 728
+    ∷ timed 694 48762
+    ∷ timed 694 51139
+    ∷ timed 48000 694
+    ∷ timed 48000 766
     -- and the largest size the other way
     ∷ played (offsetBy 3 (minus 32768)) (chunk (pos 32767 ∷ []) ∷ []) (record {
       code = 3;
@@ -625,7 +624,17 @@ wrong =
     -- K of the last rate at the one before, and an I one too few
     ∷ rate 4 32000 728 6400 1921
     ∷ rate 5 48000 728 9599 2881
-    -- a K 6 % off, either way; and those just past the least and the largest that keep the smoothing time
+    ∷ level 10 13607
+    ∷ sampled (usualSetting 2) (pos 32767 ∷ []) 2285825920 9504510 [] 14
+    ∷ percent (minus 54426) 0
+    -- one step more of A, and a hundredth less of T
+    ∷ reported second (record { L = pos 65536; A = pos 76670; C = pos 55034; F = minus 11133; lower = 6; upper = 7; T = 1519; M = pos 21635; mark = false })
+    ∷ reported second (record { L = pos 65536; A = pos 76669; C = pos 55034; F = minus 11133; lower = 6; upper = 7; T = 1518; M = pos 21635; mark = false })
+    ∷ refused quiet 16
+    -- lev from 30 places; a number in its range without a level
+    ∷ level 4407622486 131224
+    ∷ noLevel 1
+    -- a K 6 % off, either way; and those next to the least and the largest that pass
     ∷ timed 694 46224
     ∷ timed 694 52124
     ∷ timed 8000 4098
@@ -640,16 +649,6 @@ wrong =
     ∷ timed 694 51140
     ∷ timed 48000 693
     ∷ timed 48000 767
-    ∷ level 10 13607
-    ∷ sampled (usualSetting 2) (pos 32767 ∷ []) 2285825920 9504510 [] 14
-    ∷ percent (minus 54426) 0
-    -- one step more of A, and a hundredth less of T
-    ∷ reported second (record { L = pos 65536; A = pos 76670; C = pos 55034; F = minus 11133; lower = 6; upper = 7; T = 1519; M = pos 21635; mark = false })
-    ∷ reported second (record { L = pos 65536; A = pos 76669; C = pos 55034; F = minus 11133; lower = 6; upper = 7; T = 1518; M = pos 21635; mark = false })
-    ∷ refused quiet 16
-    -- lev from 30 places; a number in its range without a level
-    ∷ level 4407622486 131224
-    ∷ noLevel 1
     -- Q > c_j for Q ≥ c_j
     ∷ sampled (usualSetting 1) (pos 9126 ∷ pos 11705 ∷ []) 16052775414 (2 ^ 30) (replicate 5 2 ++ (1 ∷ 0 ∷ replicate 8 0)) 16
     -- the lower of two crossings, the second highest of three, and a change of sign upwards

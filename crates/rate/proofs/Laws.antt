@@ -1,8 +1,8 @@
--- What the crates above know of a named rate, whichever it is: `named-keeps`, `named-code` and `named-small`. Only this file goes through the table's rows.
+-- What the crates above know of a named rate, whichever it is: `row-keeps`, `named-code` and `named-small`. Only this file goes through the table's rows.
 use mathlib.Core.Bool.{Bool, true, false, cond}
 use mathlib.Core.Option.{Option, none, some, Option·getD}
 use mathlib.Core.Path.{_≡_, refl, sym, ap, subst, _∙_}
-use Prim.Native.Nat.{ℕ, _+_, _-_, _*_, _^_, _≤_, _<_}
+use Prim.Native.Nat.{ℕ, zero, suc, _+_, _-_, _*_, _^_, _≤_, _<_}
 use native.Mathlib.Omega.{arith}
 use native.Mathlib.Nat.{lt-of-not-le, not-le-of-lt, mul-le-mul-right, one-le-pow}
 use borrow.Author.Tests.{eqb-true, leb-true}
@@ -10,7 +10,7 @@ use lib.Dec.{T, eqb, lit≤}
 use Rattle.rate.specs.declared.Rate.{Rate}
 use Rattle.rate.specs.declared.Named.{Named}
 use Rattle.rate.specs.declared.Named.the-variants.{As, Nothing}
-use Rattle.rate.specs.Rates.{hz694, hz8000, hz16000, hz32000, hz48000, rateOf, isSome, isNamed, zeroRow, rowOf, named, Ceiling, lastsAtLeast, lastsAtMost, keepsTime, Keeps}
+use Rattle.rate.specs.Rates.{hz694, hz8000, hz16000, hz32000, hz48000, rateOf, isSome, isNamed, zeroRow, rowOf, named, Ceiling, eLow, eHigh, lastsAtLeast, lastsAtMost, keepsTime, Keeps}
 
 -- P of the rate, where there is one
 Of : (Rate → Type 0) → Option Rate → Type 0
@@ -73,14 +73,29 @@ named-keeps code r e =
 pub named-code : (code : ℕ) (r : Rate) → rateOf code ≡ some r → r .code ≡ code
 named-code = each-row (λ code r. r .code ≡ code) (refl, refl, refl, refl, refl)
 
--- T is not both at least and at most i samples: e lies between the two tests, so that its two decimal fractions can't be exchanged
+-- ---- e, in the rule of the smoothing time
+
+-- no K passes both tests at one i, since e lies between them; with its two ends exchanged some would
 pub not-both : (K i : ℕ) → lastsAtLeast K i ≡ true → lastsAtMost K i ≡ true → ⊥
 unfolding lastsAtLeast lastsAtMost
 not-both K i low high =
     compared ((2 ^ 20) ^ i) ((2 ^ 20 - K) ^ i) (one-le-pow i (2 ^ 20) (lit≤ tt)) (leb-true _ _ low) (leb-true _ _ high)
   where
-    compared : (x y : ℕ) → 0 < x → 10 ^ 10 * x ≤ 27182818284 * y → 27182818285 * y ≤ 10 ^ 10 * x → ⊥
+    compared : (x y : ℕ) → 0 < x → 10 ^ 10 * x ≤ eLow * y → eHigh * y ≤ 10 ^ 10 * x → ⊥
     compared x y p l h = omega arith
+
+-- n!, and the sum of n!/k! for k from 0 to n
+abbrev factorial : ℕ → ℕ
+factorial zero = 1
+factorial (suc n) = suc n * factorial n
+
+abbrev partial : ℕ → ℕ
+partial zero = 1
+partial (suc n) = suc n * partial n + 1
+
+-- e is the sum of 1/k! for all k: above that for k up to 13, and by less than 1/(13·13!)
+pub e-between : (eLow * factorial 13 ≤ 10 ^ 10 * partial 13) × (10 ^ 10 * (13 * partial 13 + 1) ≤ eHigh * (13 * factorial 13))
+e-between = (lit≤ tt, lit≤ tt)
 
 -- ---- by the code alone
 

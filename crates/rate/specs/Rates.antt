@@ -59,13 +59,20 @@ pub record Ceiling (a b c : ℕ) : Type 0 where
   pub not-below : a ≤ c * b
   pub smallest : (x : ℕ) → a ≤ x * b → c ≤ x
 
+-- e is between 2.7182818284 and 2.7182818285; ten thousand million times
+abbrev pub eLow : ℕ
+eLow = 27182818284
+
+abbrev pub eHigh : ℕ
+eHigh = 27182818285
+
 -- The smoothing time T: P.56 has g = exp(−1/(f·T)) at f samples a second, and here g is 1 − K/2^20. So T is i samples or longer where g^i ≥ 1/e, and i
--- samples or shorter where g^i ≤ 1/e. e is between 2.7182818284 and 2.7182818285
+-- samples or shorter where g^i ≤ 1/e. Each test has the end of e with which it is the stricter
 unfoldable pub lastsAtLeast : (K i : ℕ) → Bool
-lastsAtLeast K i = leb (10 ^ 10 * (2 ^ 20) ^ i) (27182818284 * (2 ^ 20 - K) ^ i)
+lastsAtLeast K i = leb (10 ^ 10 * (2 ^ 20) ^ i) (eLow * (2 ^ 20 - K) ^ i)
 
 unfoldable pub lastsAtMost : (K i : ℕ) → Bool
-lastsAtMost K i = leb (27182818285 * (2 ^ 20 - K) ^ i) (10 ^ 10 * (2 ^ 20) ^ i)
+lastsAtMost K i = leb (eHigh * (2 ^ 20 - K) ^ i) (10 ^ 10 * (2 ^ 20) ^ i)
 
 -- K "keeps T within Table 2's 5 %" of 0.03 s: from 0.0285 s, rounded up to samples, to 0.0315 s, rounded down
 unfoldable pub keepsTime : (f K : ℕ) → Bool
