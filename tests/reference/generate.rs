@@ -23,14 +23,15 @@ use crate::rate::RATES;
 use crate::records::Record;
 use random::Random;
 
-/// Codes of one byte: those that name a rate, those next to them, and the largest.
+/// Codes of one byte: those that name a rate, those next to them, two that would name one by their
+/// low bits, and the largest.
 ///
 /// They are numbers, not made from the table of rates, so that a table with a row too few or too
 /// many is not tried with its own codes alone.
-const CODES: [u8; 9] = [0, 1, 2, 3, 4, 5, 6, 7, 255];
+const CODES: [u8; 11] = [0, 1, 2, 3, 4, 5, 6, 7, 12, 133, 255];
 
 /// Those of them that name no rate.
-const UNNAMED: [u8; 4] = [0, 6, 7, 255];
+const UNNAMED: [u8; 6] = [0, 6, 7, 12, 133, 255];
 
 /// The same codes as numbers of 32 bits.
 fn byte_codes() -> Vec<u32> {

@@ -11,6 +11,7 @@ use crate::rate::{rate, Rate, RATES};
 use crate::records::{script, Record};
 use crate::setting::Setting;
 use crate::tally::Tally;
+use std::iter;
 
 /// K at both ends of the range for which the error is stated, next to them, and between.
 const KS: [u64; 9] = [
@@ -36,6 +37,7 @@ pub fn rates(tally: &mut Tally) {
     time_constants(tally);
     envelopes(tally);
     widest(tally);
+    hangovers(tally);
     lines(tally);
 }
 
@@ -135,6 +137,28 @@ fn widest(tally: &mut Tally) {
         }
         let at_least = [error, error + 1].map(|units| exact.envelope(meter.Q + units));
         tally.equal("the widest error", at_least, [true, false]);
+    }
+}
+
+/// One sample of 1 and a pause, at the I of each rate and a K of 2^20, with which the envelope is at
+/// c_0 in that sample alone: meter and E both count it and the pause, up to I samples of that.
+fn hangovers(tally: &mut Tally) {
+    for (rate, I) in RATES.iter().zip([139, 1600, 3200, 6400, 9600]) {
+        let rate = Rate {
+            K: 1 << 20,
+            ..*rate
+        };
+        let (mut meter, mut exact) = fresh(&rate, 0);
+        let mut counts = Vec::new();
+        for x in iter::once(1).chain(iter::repeat_n(0, I + 1)) {
+            meter.sample(&rate, x);
+            exact.chunk(&[x]);
+            counts.push(meter.a[0]);
+        }
+        let name = format!("the hangover of code {}", rate.code);
+        let expected = (1..=I as u64 + 1).chain([I as u64 + 1]);
+        tally.holds(&name, expected.eq(counts));
+        tally.equal(&name, exact.count(1 << 24), I as u64 + 1);
     }
 }
 

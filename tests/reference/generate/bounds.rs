@@ -28,10 +28,17 @@ pub fn bounds(random: &mut Random, code: u8) -> Vec<Meter> {
     meters
 }
 
-/// Rate codes, named and not.
+/// Rate codes, named and not, each also with hangovers that have just begun, which no I forbids.
 fn codes(random: &mut Random, code: u8) -> Vec<Meter> {
-    let with = |given| plausible(random, code).at_code(given);
-    [code].into_iter().chain(UNNAMED).map(with).collect()
+    let both = |given| {
+        let meter = plausible(random, code).at_code(given);
+        let begun = Meter {
+            h: [0; PLACES],
+            ..meter.clone()
+        };
+        [meter, begun]
+    };
+    [code].into_iter().chain(UNNAMED).flat_map(both).collect()
 }
 
 /// Offsets, of which refusal 2 says nothing: where totals and envelopes are at their bounds, and
