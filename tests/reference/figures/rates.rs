@@ -102,8 +102,8 @@ fn fresh(rate: &Rate, offset: i16) -> (Meter, Exact) {
     (Meter::open(setting).0, Exact::open(rate, offset))
 }
 
-/// The error of the envelope after each sample of some signals, at the five rates and at any K (the
-/// customer's request L9).
+/// The error of the envelope after each sample of some signals, at the five rates and at other K,
+/// from the least to the most (the customer's request L9).
 fn envelopes(tally: &mut Tally) {
     let any = KS.map(|K| Rate { K, ..RATES[0] });
     let mut random = Random::new(9);
