@@ -135,8 +135,8 @@ fn widest(tally: &mut Tally) {
             meter.sample(rate, x);
             exact.chunk(&[x]);
         }
-        let at_least = [error, error + 1].map(|units| exact.envelope(meter.Q + units));
-        tally.equal("the widest error", at_least, [true, false]);
+        let raised = [0, error, error + 1].map(|units| exact.envelope(meter.Q + units));
+        tally.equal("the widest error", raised, [true, true, false]);
     }
 }
 
