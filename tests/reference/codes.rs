@@ -13,8 +13,7 @@ pub fn codes(script: &[u8]) -> Option<String> {
     (!bad).then(|| lines.into_iter().collect())
 }
 
-/// Of an opening its code and its answer; of a meter handed in its code and 0, or 2 where that alone
-/// is what refusal 2 finds.
+/// Of an opening its code and its answer; of a meter handed in its code and whether 2 refuses it.
 fn line(record: &Record) -> Option<String> {
     match record {
         Record::Open(opening) => {
@@ -26,7 +25,8 @@ fn line(record: &Record) -> Option<String> {
     }
 }
 
-/// 2 where a meter's code is what refusal 2 finds, 0 where it finds nothing, else None.
+/// 2 where refusal 2 stops a meter that it would let pass with another code, 0 where it lets it
+/// pass, else None.
 fn refused(meter: &Meter) -> Option<u32> {
     let r = if meter.refusal_2() { 2 } else { 0 };
     let mut others = RATES.iter().map(|rate| meter.at_code(rate.code));

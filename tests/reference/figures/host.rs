@@ -52,8 +52,8 @@ fn codes(tally: &mut Tally) {
 
 /// Checks the answer to both with a code.
 fn both(tally: &mut Tally, code: &str, r: u32) {
-    let both = format!("{CHECK}\n{WRITE}").replace("code=1", &format!("code={code}"));
-    row(tally, &both, &format!("check {r}\nwrite {r} a5a5a5\n"));
+    let records = format!("{CHECK}\n{WRITE}").replace("code=1", &format!("code={code}"));
+    row(tally, &records, &format!("check {r}\nwrite {r} a5a5a5\n"));
 }
 
 /// The write with a buffer of 512 bytes and with one of none.

@@ -1,5 +1,5 @@
-//! The figures of the rates (the customer's scope, "Rates"), the error of the envelope at any K (the
-//! customer's request L9), and what `codes` tells of scripts.
+//! The figures of the rates (the customer's scope, "Rates"), the error of the envelope at these and
+//! other K (the customer's request L9), and what `codes` tells of scripts.
 
 use super::handed_in;
 use crate::codes::codes;

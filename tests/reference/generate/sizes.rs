@@ -30,7 +30,8 @@ pub const KINDS: [Kind; 5] = [
 ];
 
 impl Kind {
-    /// A rate for it: mostly that of code 1, and always where at others it would take more samples.
+    /// A rate for it: that of code 1 three times in seven, and always where at others it would take
+    /// more samples.
     pub fn rate(self, random: &mut Random) -> &'static Rate {
         match self {
             Kind::Steady | Kind::Hump => &RATES[0],
