@@ -83,10 +83,7 @@ fn decibels(tally: &mut Tally) {
 /// than its margin, and reports that are refused, have no line.
 fn lines(tally: &mut Tally) {
     let level = handed_in(16384, 1 << 30, &[4096; 8]);
-    let impossible = Meter {
-        n: 0,
-        ..level.clone()
-    };
+    let impossible = handed_in(0, 1 << 30, &[4096; 8]);
     let records = script(&[
         Record::open(setting(2, 20955)),
         Record::Report,

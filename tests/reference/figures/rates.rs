@@ -166,10 +166,7 @@ fn hangovers(tally: &mut Tally) {
 /// has no line.
 fn lines(tally: &mut Tally) {
     let level = handed_in(16384, 1 << 30, &[4096; 8]);
-    let impossible = Meter {
-        n: 0,
-        ..level.clone()
-    };
+    let impossible = handed_in(0, 1 << 30, &[4096; 8]);
     let records = script(&[
         Record::open(Setting::usual(4)),
         Record::Report,
