@@ -33,7 +33,7 @@ use Rattle.figures.specs.Rows.{Row, sampledMeter, meterFrom, exactFrom, 
 use Rattle.figures.specs.Table.{softly, run, mirrored, faults, measuring, refusing, table, wrong}
 use Rattle.figures.proofs.Rows.{sameShown, alike, testOf, test, allTrue, noneTrue, sound-table, joined}
 
--- To unfold this is to unfold all that the next line but one names, by which the tests of rows are computed; nothing else is done with it.
+-- Where this is unfolded, so is all that its own line names, by which the tests of rows are computed. It is there for nothing else.
 computed : Row → Bool
 unfolding placeUpTo place startOf bit next spell lev levelOf rateOf isNamed rowOf lastsAtLeast lastsAtMost keepsTime firstOf numberAt kind rateCode count before signed samplesAt samplesIn word sumBelow checkSum weightedSum wrongLength wrongCheck wrongKind wrongRate wrongCount zeros usedUnused blockRules sound hostRules hostCheck bytesOf wordOf bytesOfSamples contentsOf blockOf unwritable writeRules writeCall counted hung smooth size rectified heldOf noList doubled builtIn wrongListLength wrongEntry wrongEnd listRules unloadable listFrom upTo words freshState kOf iOf dOf fresh zeroMeter countingOf afterSamples summed counts hangovers stateAfterOne stateAfter longTerm activeAt levelOfThreshold excess isCrossing highestBelow crossing lowerOf activeLevel notAbove anyOf someBelow someFrom unnamedCode wrongMargin manySamples largeSum largeSquares largeP largeQ impossibleSums longHangover largeCount risingCount fallingHangover impossibleCounter filledCounter impossible longChunk wrongPlace tooMany openRules chunkRules blockCallRules levelsAt noLevels crossingIn firstExcess crossingOf firstOfMeter noSamples noSignal noActivity levelBelow levelAbove reportRules noReport reportWith reportAt reportFor openCall chunkCall blockCall reportCall startAt start distance reaches countNext hangoverNext takeOne takeAll accepts broughtBy fed exactly called accepted after taken given sampledMeter meterFrom exactFrom numbersOf carriedBy measurementOf shownBy valuesOf inPlaces pairs blockWith soundBlock fullBlock endBlock twenty lastBlock lastFull exampleBytes plainBytes threeBytes otherSum highSum otherWeighted otherKind otherCode superWideband fullBand unnamedRate noCount highCount usedNext usedLast softly run mirrored faults sameShown alike testOf test
 computed r = test r

@@ -573,6 +573,7 @@ refusing =
     ∷ checked otherCode 2 0
     ∷ checked superWideband 4 0
     ∷ checked fullBand 5 0
+    ∷ checked soundBlock 6 1
     ∷ checked unnamedRate 6 1
     ∷ checked threeBytes 0 1
     ∷ checked threeBytes 1 4

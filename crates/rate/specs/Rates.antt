@@ -59,7 +59,7 @@ pub record Ceiling (a b c : ℕ) : Type 0 where
   pub not-below : a ≤ c * b
   pub smallest : (x : ℕ) → a ≤ x * b → c ≤ x
 
--- e is between 2.7182818284 and 2.7182818285; ten thousand million times
+-- 10^10·e is between these two
 abbrev pub eLow : ℕ
 eLow = 27182818284
 
