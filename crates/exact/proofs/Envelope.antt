@@ -126,7 +126,7 @@ unfolding stateAfter stateAfterOne summed takeAll takeOne
 follows T [] m e k0 kG f = f
 follows T (x ∷ xs) m e k0 kG f = follows T xs (stateAfterOne (record { k = e .K; i = e .I; offset = e .o }) T m x) (takeOne e x) k0 kG (follows-one (m .sums .p) (m .sums .q) e x k0 kG f)
 
--- what one sample does not change in E, samples in order do not; so it keeps its K
+-- what every single sample leaves alone in E, samples in order leave alone too: its K for one
 pub kept : {A : Type 0} (f : E → A) → ((e : E) (x : ℤ) → f (takeOne e x) ≡ f e) → (xs : List ℤ) (e : E) → f (takeAll e xs) ≡ f e
 unfolding takeAll
 kept f same [] e = refl

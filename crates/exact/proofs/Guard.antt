@@ -328,7 +328,7 @@ module _ (m : Meter) (ok : impossible m ≡ false) where
   of-T : levelOf 10000 ≡ some (pos (lev 10000))
   of-T = claim .levels-exist m ok .of-T 10000 (lit≤ tt) (lit≤ tt)
 
--- the smoothing time at any rate: at a given code it would be worked out, and not taken from the claim; then I and D at the last
+-- the smoothing time, at any rate: at one code the checker would compute it, whatever the claim says; then I and D at the last
 in-time : (code : ℕ) → isNamed code ≡ true → keepsTime (rowOf code .hertz) (rowOf code .k) ≡ true
 in-time code n = claim .rates code n .time-rule
 

@@ -253,7 +253,7 @@ measuring =
     ∷ sampled (usualSetting 5) (pos 32767 ∷ []) 381670016 264983 [] 14
     ∷ counted (usualSetting 4) (constant (pos 32767) 40) (threshold 3) 20
     ∷ counted (usualSetting 5) (constant (pos 32767) 40) (threshold 3) 9
-    -- the smoothing time at each rate; and with the least K and the largest that pass, which at 694 are not all that keep it
+    -- the smoothing time at each rate; then with the least K and the largest that pass the test, which is stricter than 5 % at 694
     ∷ timed 694 49174
     ∷ timed 8000 4360
     ∷ timed 16000 2182

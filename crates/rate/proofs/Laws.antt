@@ -75,7 +75,7 @@ named-code = each-row (λ code r. r .code ≡ code) (refl, refl, refl, refl, ref
 
 -- ---- e, in the rule of the smoothing time
 
--- no K passes both tests at one i, since e lies between them; with its two ends exchanged some would
+-- no K passes both tests at one i, since e lies between them; with its two ends exchanged this can't be shown
 pub not-both : (K i : ℕ) → lastsAtLeast K i ≡ true → lastsAtMost K i ≡ true → ⊥
 unfolding lastsAtLeast lastsAtMost
 not-both K i low high =
@@ -93,7 +93,7 @@ abbrev partial : ℕ → ℕ
 partial zero = 1
 partial (suc n) = suc n * partial n + 1
 
--- e is the sum of 1/k! for all k: above that for k up to 13, and by less than 1/(13·13!)
+-- e, the sum of 1/k! over all k, is above the sum up to k = 13, and by less than 1/(13·13!)
 pub e-between : (eLow * factorial 13 ≤ 10 ^ 10 * partial 13) × (10 ^ 10 * (13 * partial 13 + 1) ≤ eHigh * (13 * factorial 13))
 e-between = (lit≤ tt, lit≤ tt)
 
