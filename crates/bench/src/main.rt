@@ -3,6 +3,8 @@
 // samples, two bytes each: a meter opened at that code and offset, and else as usual, takes the samples so
 // many times over, in chunks of that length, and its values are printed. Where less than these seven bytes
 // come, the meter is the one of all zeros.
+#![tactic(auto)]
+
 ghost use Rattle.std.specs.Prelude.{◌<◌};
 
 use input::Streams;

@@ -1,6 +1,8 @@
 // Sample blocks (METHOD.md, "Sample blocks"): why one is refused, the part that carries its
 // samples, a block made from samples, and the two calls of a host in C, which checks blocks and
 // makes them.
+#![tactic(auto)]
+
 mod checks;
 mod fields;
 mod writing;

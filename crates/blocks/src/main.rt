@@ -8,6 +8,8 @@
 // the rest. A bad word on the command line, an odd byte at the end of the input, and a failure to read or
 // to write have a line on standard error; the samples that came before are in blocks all the same, as far
 // as these could be written.
+#![tactic(auto)]
+
 mod arguments;
 mod packing;
 mod taking;

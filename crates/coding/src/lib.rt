@@ -1,5 +1,7 @@
 // Numbers and samples in bytes, little-endian (METHOD.md, "Sample blocks"): read from them, and put
 // into them.
+#![tactic(auto)]
+
 mod putting;
 mod reading;
 mod samples;

@@ -1,4 +1,6 @@
 // The levels of a report (METHOD.md, "The report"): the crossing, and the active level at it.
+#![tactic(auto)]
+
 mod interpolation;
 mod search;
 mod steps;

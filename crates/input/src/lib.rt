@@ -1,4 +1,6 @@
 // Standard input through a lent buffer, and beside it what waits to be written.
+#![tactic(auto)]
+
 mod source;
 mod streams;
 

@@ -1,6 +1,8 @@
 // The level logarithm (METHOD.md, "The level logarithm"), and the types that keep counts of
 // samples, hundredths of a percent, thresholds in units and levels in steps apart: only the logarithm
 // leads from the first three to the last.
+#![tactic(auto)]
+
 mod sums;
 
 ghost use Rattle.std.specs.Prelude.{◌≡◌, ◌+◌, ◌*◌, ◌^◌, ◌<◌, ◌≤◌, nat_lt};

@@ -1,5 +1,7 @@
 // The meter's calls (METHOD.md, "One sample", "The report" and "Why a call is refused"): what each
 // hands back.
+#![tactic(auto)]
+
 mod feeding;
 mod opening;
 mod reporting;

@@ -1,4 +1,6 @@
 // Text in a lent buffer, the page on which lines wait for one write, and what is said on standard error.
+#![tactic(auto)]
+
 mod faults;
 mod page;
 mod text;

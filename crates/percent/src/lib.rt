@@ -1,5 +1,7 @@
 // The activity factor as a percentage (METHOD.md, "The report"). Of the logarithm it knows that it
 // never falls.
+#![tactic(auto)]
+
 ghost use Rattle.std.specs.Prelude.{◌≡◌, ◌<◌, pos};
 ghost use Rattle.level.specs.Logarithm.{lev};
 ghost use Rattle.level.specs.Types.{hundredths_of};

@@ -1,5 +1,7 @@
 // Refusal 2 as far as it is about a meter's state (METHOD.md, "Why a call is refused"): what no
 // measurement could leave. The conditions are tested in the definition's order.
+#![tactic(auto)]
+
 ghost use Rattle.std.specs.Prelude.{◌||◌, [], ◌∷◌, ◌≡◌, ◌*◌, min, ltb};
 ghost use Rattle.level.specs.Types.{two_words};
 ghost use Rattle.thresholds.specs.Lists.{places};

@@ -1,5 +1,7 @@
 // A meter, and what a call gave, as text behind what a buffer holds already: the lines that the programs
 // write.
+#![tactic(auto)]
+
 use crossing::Levels;
 use level::{Samples, Squares};
 use meter::{Fed, Meter, Report, Reported};

@@ -1,4 +1,6 @@
 // The named rates (METHOD.md, "Rates").
+#![tactic(auto)]
+
 ghost use Rattle.std.specs.Prelude.{◌≡◌};
 ghost use Rattle.rate.specs.Rates.{named, rate_of, is_named};
 

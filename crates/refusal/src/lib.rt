@@ -1,4 +1,6 @@
 // Why a call is refused (METHOD.md, "Why a call is refused"): one list for the whole project.
+#![tactic(auto)]
+
 ghost use Rattle.std.specs.Prelude.{◌≡◌};
 ghost use Rattle.refusal.specs.Number.{number_of, number_given};
 

@@ -24,6 +24,8 @@
 // kind, ends the run with the line `bad record k`, where k is its number, from 1; standard error says where
 // it starts and what is wrong with it. A failure to read or to write ends the run with a line on standard
 // error alone.
+#![tactic(auto)]
+
 mod calls;
 mod faults;
 mod questions;

@@ -3,6 +3,8 @@
 // measurement and, where there is a level, one with the activity as a percentage. They go out by one
 // write. Where not all of the input could be read, or a write failed, standard error says so; the
 // closing lines are then not printed, or where it was theirs that failed, not to their end.
+#![tactic(auto)]
+
 use input::Streams;
 use level::{Samples, Squares};
 use meter::{Fed, Meter, Report};

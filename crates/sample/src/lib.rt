@@ -5,6 +5,8 @@
 // crosses a threshold, the counters of that threshold are brought up to date in closed form; those
 // of the others go on standing as they were, and all are brought up to date at the end. So are n and
 // sq: n only counts, and the squares of new samples fit one word.
+#![tactic(auto)]
+
 mod band;
 mod counters;
 mod plain;

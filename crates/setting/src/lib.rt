@@ -1,5 +1,7 @@
 // What is chosen when a meter is opened. The meter keeps it; of it the exact machine E is fed the code
 // and the offset.
+#![tactic(auto)]
+
 mod margin;
 
 ghost use Rattle.std.specs.Prelude.{◌≡◌};

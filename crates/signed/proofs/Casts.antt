@@ -10,4 +10,4 @@ pub widens : {w : Width} {x : ℤ} → T (leb (hbits w) (hbits w64)) → SFits w
 widens t f = subst (SFits w64) (sym (to_z-of_z f)) (sfits_widen t f)
 
 pub widened : {w : Width} {x : ℤ} → T (leb (hbits w) (hbits w64)) → SFits w x → to_z w64 (of_z w64 (to_z w (of_z w x))) ≡ x
-widened t f = ap (λ (z : ℤ). to_z w64 (of_z w64 z)) (to_z-of_z f) ∙ to_z-of_z (sfits_widen t f)
+widened t f = ap (λ (z : ℤ). to_z w64 (of_z w64 z)) (to_z-of_z f) ∙ to_z-of_z {w = w64} (sfits_widen t f)

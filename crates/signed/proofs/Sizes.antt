@@ -49,4 +49,4 @@ difference_fits a (suc b) h l = record { sfits = omega (arith, sub_mag (ltb a (s
 
 -- a word that holds x
 pub word : {v x : ℤ} → mag v < 2 ^ 63 → v ≡ x → to_z w64 (of_z w64 v) ≡ x
-word h e = to_z-of_z (record { sfits = h }) ∙ e
+word h e = to_z-of_z {w = w64} (record { sfits = h }) ∙ e

@@ -1,4 +1,6 @@
 // Signed numbers, by their size.
+#![tactic(auto)]
+
 ghost use Rattle.std.specs.Prelude.{◌≡◌, nat_abs};
 
 // |x|, which for the least i64 is no i64.

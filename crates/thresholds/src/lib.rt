@@ -1,5 +1,7 @@
 // A meter's thresholds (METHOD.md, "Thresholds"): the list that it holds, the built-in one, and which
 // lists load.
+#![tactic(auto)]
+
 mod loading;
 
 ghost use Rattle.std.specs.Prelude.{◌≡◌, ◌+◌, ◌<◌, get_or};

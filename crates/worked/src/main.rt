@@ -1,4 +1,6 @@
 // The customer's worked figures, run: the answers to calls, and the four reports at P.56's margin.
+#![tactic(auto)]
+
 ghost use Rattle.std.specs.Prelude.{◌≡◌, length};
 
 use level::{MOST_SAMPLES, Samples, Squares};
