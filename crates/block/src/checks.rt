@@ -17,7 +17,7 @@ pub fn checked(block: &[u8]) -> bool
     fields::word(block, 510) == right.weighted
 }
 
-#[derive(Drop)]
+#[derive(Clone, Copy)]
 pub struct CheckWords {
     pub sum: usize,
     pub weighted: usize,

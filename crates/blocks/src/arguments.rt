@@ -1,13 +1,13 @@
 // The words of the command line.
 
 // The rate code, and k: every k-th sample is taken.
-#[derive(Drop)]
+#[derive(Clone, Copy)]
 pub struct Asked {
     pub code: u32,
     pub k: u32,
 }
 
-#[derive(Drop)]
+#[derive(Clone, Copy)]
 pub enum Words {
     Good(Asked),
     Bad,

@@ -7,7 +7,7 @@ use refusal::Answer;
 
 // Which sample is taken next and how many are in hand, how many are in blocks, what is read and written,
 // and whether there can be more.
-#[derive(Drop)]
+#[derive(Clone, Copy)]
 pub struct Packing {
     pub taking: Taking,
     pub before: u64,

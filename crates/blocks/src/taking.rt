@@ -1,14 +1,14 @@
 // Which samples are taken: one of every k.
 
 // How many samples are left out before the next one is taken, and how many are in hand.
-#[derive(Drop)]
+#[derive(Clone, Copy)]
 pub struct Taking {
     pub skip: usize,
     pub count: usize,
 }
 
 // What a piece of the input leads to, and how many of its bytes are done with.
-#[derive(Drop)]
+#[derive(Clone, Copy)]
 pub struct Taken {
     pub taking: Taking,
     pub used: usize,

@@ -6,7 +6,7 @@ use level::{Samples, Steps};
 use thresholds::{PLACES, Thresholds};
 
 // The active level at a crossing, and the crossing's lower threshold.
-#[derive(Drop)]
+#[derive(Clone, Copy)]
 pub struct Active {
     pub level: Steps,
     pub lower: usize,

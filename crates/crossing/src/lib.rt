@@ -16,7 +16,7 @@ use thresholds::{PLACES, Thresholds};
 
 // The long-term level L, the active level A, the threshold C and the activity factor F, in steps;
 // the lower and the upper threshold of the crossing.
-#[derive(Drop)]
+#[derive(Clone, Copy)]
 pub struct Levels {
     pub level: Steps,
     pub active: Steps,
@@ -28,7 +28,7 @@ pub struct Levels {
 
 // What the search for a crossing finds: levels; or no crossing, with the first difference below 0,
 // or above it.
-#[derive(Drop)]
+#[derive(Clone, Copy)]
 pub enum Found {
     At(Levels),
     Below,

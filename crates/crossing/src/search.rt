@@ -8,7 +8,7 @@ use level::{Samples, Steps};
 use thresholds::{PLACES, Thresholds};
 
 // The place of a crossing, if there is one.
-#[derive(Drop)]
+#[derive(Clone, Copy)]
 pub enum Place {
     At(usize),
     Nowhere,

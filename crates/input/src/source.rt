@@ -6,7 +6,7 @@ use libc::STDIN_FILENO;
 
 // What a further read can bring: more; nothing, since the input has ended; or nothing, since a read
 // failed with an error of the system's.
-#[derive(Drop)]
+#[derive(Clone, Copy)]
 pub enum Coming {
     More,
     End,
@@ -15,7 +15,7 @@ pub enum Coming {
 
 // Which bytes of the buffer are read and not yet used, from `at` up to `end`; how many were read in all;
 // and what a further read can bring.
-#[derive(Drop)]
+#[derive(Clone, Copy)]
 pub struct Source {
     pub at: usize,
     pub end: usize,
@@ -115,7 +115,7 @@ fn moved(buffer: &mut [u8], from: usize, n: usize) -> usize
 }
 
 // Where what a buffer holds ends, and what a further read can bring.
-#[derive(Drop)]
+#[derive(Clone, Copy)]
 struct Got {
     end: usize,
     coming: Coming,

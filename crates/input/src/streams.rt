@@ -2,7 +2,7 @@
 use crate::{Coming, Source, source};
 use page::{Page, Writing};
 
-#[derive(Drop)]
+#[derive(Clone, Copy)]
 pub struct Streams {
     pub source: Source,
     pub page: Page,
@@ -89,7 +89,7 @@ impl Streams {
 }
 
 // The streams after a part of the input was to be read through, and how many of its bytes did not come.
-#[derive(Drop)]
+#[derive(Clone, Copy)]
 pub struct Passed {
     pub streams: Streams,
     pub left: usize,

@@ -13,30 +13,30 @@ ghost use Rattle.level.specs.Types.{samples_of, hundredths_of, units_of, steps_o
 pub const MOST_SAMPLES: u64 = 1 << 48;
 
 // A level, or a difference of two, in steps of 1/4096 of a doubling of power.
-#[derive(Drop)]
+#[derive(Clone, Copy)]
 pub struct Steps(i64);
 
 // A count of samples.
-#[derive(Drop)]
+#[derive(Clone, Copy)]
 pub struct Samples(u64);
 
 // A part of the whole, in hundredths of a percent.
-#[derive(Drop)]
+#[derive(Clone, Copy)]
 pub struct Hundredths(u64);
 
 // A threshold, in units of 2^-24 quantizing interval.
-#[derive(Drop)]
+#[derive(Clone, Copy)]
 pub struct Units(u64);
 
 // A sum of squares, in two words.
-#[derive(Drop)]
+#[derive(Clone, Copy)]
 pub struct Squares {
     pub high: u64,
     pub low: u64,
 }
 
 // What a number has for a level.
-#[derive(Drop)]
+#[derive(Clone, Copy)]
 pub enum Level {
     At(Steps),
     None,

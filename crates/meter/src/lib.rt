@@ -15,7 +15,7 @@ use setting::Setting;
 use thresholds::PLACES;
 
 // A meter: its setting, and what samples change.
-#[derive(Drop)]
+#[derive(Clone, Copy)]
 pub struct Meter {
     pub setting: Setting,
     pub state: State,
@@ -23,7 +23,7 @@ pub struct Meter {
 
 // A report: n, s, sq, the activity counts, the levels, the activity factor as a percentage, the margin,
 // and its mark, true where the margin is below 20955 steps.
-#[derive(Drop)]
+#[derive(Clone, Copy)]
 pub struct Report {
     pub n: Samples,
     pub s: i64,
@@ -36,14 +36,14 @@ pub struct Report {
 }
 
 // What a call hands back: its answer, and the meter.
-#[derive(Drop)]
+#[derive(Clone, Copy)]
 pub struct Fed {
     pub answer: Answer,
     pub meter: Meter,
 }
 
 // What a report call hands back: its answer, the meter, and the report.
-#[derive(Drop)]
+#[derive(Clone, Copy)]
 pub struct Reported {
     pub answer: Answer,
     pub meter: Meter,

@@ -7,14 +7,14 @@ use crate::text;
 use libc::STDOUT_FILENO;
 
 // How writing goes: well, or a write failed with an error of the system's.
-#[derive(Drop)]
+#[derive(Clone, Copy)]
 pub enum Writing {
     Well,
     Failed(i32),
 }
 
 // How much of the buffer waits to be written, and how writing goes.
-#[derive(Drop)]
+#[derive(Clone, Copy)]
 pub struct Page {
     pub used: usize,
     pub writing: Writing,

@@ -6,7 +6,7 @@ ghost use Rattle.rate.specs.Rates.{named, rate_of, is_named};
 
 // A rate: its code, its samples a second, the smoothing figure K, the hangover I in samples, and
 // D, the envelope's error bound in units of 2^-24 quantizing interval.
-#[derive(Drop)]
+#[derive(Clone, Copy)]
 pub struct Rate {
     pub code: u32,
     pub hertz: u64,
@@ -16,7 +16,7 @@ pub struct Rate {
 }
 
 // What a code names.
-#[derive(Drop)]
+#[derive(Clone, Copy)]
 pub enum Named {
     As(Rate),
     Nothing,

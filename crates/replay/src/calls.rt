@@ -10,7 +10,7 @@ use setting::Setting;
 use thresholds::{PLACES, Thresholds};
 
 // The meter after a record, and how much of the lent buffer its line takes.
-#[derive(Drop)]
+#[derive(Clone, Copy)]
 pub struct Answer {
     pub meter: Meter,
     pub used: usize,

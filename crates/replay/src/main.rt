@@ -40,7 +40,7 @@ use writing::Wrote;
 
 // How a run goes on: with another record; not at all, since no more can be read or written; or not at
 // all, since a record is of no known kind or is cut short.
-#[derive(Drop)]
+#[derive(Clone, Copy)]
 pub enum Going {
     On,
     Ended,
@@ -49,7 +49,7 @@ pub enum Going {
 }
 
 // The meter after a record, what is read and written, where the record starts, and how the run goes on.
-#[derive(Drop)]
+#[derive(Clone, Copy)]
 pub struct Run {
     pub meter: Meter,
     pub streams: Streams,

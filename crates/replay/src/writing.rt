@@ -6,7 +6,7 @@ use crate::records;
 use input::Streams;
 
 // The streams after a record, and whether all of it came.
-#[derive(Drop)]
+#[derive(Clone, Copy)]
 pub struct Wrote {
     pub streams: Streams,
     pub whole: bool,
@@ -14,7 +14,7 @@ pub struct Wrote {
 
 // What a record asks, but for the buffer: a rate code, the number of samples before, and how many of
 // its samples are kept.
-#[derive(Drop)]
+#[derive(Clone, Copy)]
 struct Asked {
     code: u32,
     before: u64,

@@ -36,7 +36,7 @@ fn main() {
 }
 
 // A meter, what is read and written, and whether there can be another block.
-#[derive(Drop)]
+#[derive(Clone, Copy)]
 struct Measurement {
     meter: Meter,
     streams: Streams,

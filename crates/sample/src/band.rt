@@ -11,7 +11,7 @@ const TOP: u64 = 1 << 63;
 
 // From low up to, not including, high: no threshold lies between them. So many of the thresholds are
 // at or below low.
-#[derive(Drop)]
+#[derive(Clone, Copy)]
 pub struct Band {
     pub low: u64,
     pub high: u64,

@@ -23,7 +23,7 @@ pub use plain::counts;
 use thresholds::{PLACES, Thresholds};
 
 // What counting goes by: the rate's K and I, and the offset.
-#[derive(Drop)]
+#[derive(Clone, Copy)]
 pub struct Counting {
     pub k: u64,
     pub i: u64,
@@ -31,7 +31,7 @@ pub struct Counting {
 }
 
 // n, s, sq, P and Q.
-#[derive(Drop)]
+#[derive(Clone, Copy)]
 pub struct Sums {
     pub n: Samples,
     pub s: i64,
@@ -41,7 +41,7 @@ pub struct Sums {
 }
 
 // The sums and, for each threshold, the activity count a and the hangover h.
-#[derive(Drop)]
+#[derive(Clone, Copy)]
 pub struct State {
     pub sums: Sums,
     pub a: [Samples; PLACES],

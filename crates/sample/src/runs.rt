@@ -7,7 +7,7 @@ use crate::step::Moving;
 
 // The index at which a run ended, and what the sample there left; where the samples ended, what all of
 // them left.
-#[derive(Drop)]
+#[derive(Clone, Copy)]
 pub struct Run {
     pub last: Moving,
     pub end: usize,

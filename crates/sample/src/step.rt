@@ -13,7 +13,7 @@ const SMOOTHING: u64 = 1 << 20;
 const INTERVAL: u64 = 1 << 24;
 
 // What moves at each new sample: s, P and Q, and sq of the new samples alone, in one word.
-#[derive(Drop)]
+#[derive(Clone, Copy)]
 pub struct Moving {
     pub s: i64,
     pub sq: u64,

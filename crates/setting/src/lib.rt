@@ -11,7 +11,7 @@ use level::Steps;
 pub use margin::{marked_margin, wrong_margin};
 use thresholds::Thresholds;
 
-#[derive(Drop)]
+#[derive(Clone, Copy)]
 pub struct Setting {
     // The rate code.
     pub code: u32,

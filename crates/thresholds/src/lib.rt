@@ -20,7 +20,7 @@ const BUILT_IN: usize = 15;
 const INTERVAL: u64 = 1 << 24;
 
 // So many thresholds, in units of 2^-24 quantizing interval, and zeros past them.
-#[derive(Drop)]
+#[derive(Clone, Copy)]
 pub struct Thresholds {
     pub count: usize,
     pub at: [u64; PLACES],
