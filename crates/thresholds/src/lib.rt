@@ -28,6 +28,7 @@ pub struct Thresholds {
 
 impl Thresholds {
     // The powers of two, doubled out: the first is one interval, each next is twice the one before.
+    #[tactic(auto, unfolding(crate::specs::Lists::built_in_list, crate::specs::Places::list_from))]
     pub fn built_in() -> Thresholds
         ensures { result ≡ built_in_list }
     {
@@ -57,6 +58,7 @@ impl Thresholds {
     }
 
     // No list.
+    #[tactic(auto, unfolding(crate::specs::Lists::no_list, crate::specs::Places::list_from))]
     pub fn none() -> Thresholds
         ensures { result ≡ no_list }
     {

@@ -21,6 +21,7 @@ const LAST_LEAST: u64 = 1 << 37;
 const LAST_MOST: u64 = 1 << 39;
 
 // What opening answers to a list: the first rule that it breaks.
+#[tactic(auto, using(crate::proofs::Laws::length_in), unfolding(crate::specs::Lists::list_rules, refusal::specs::First::first_of))]
 pub fn load(at: &[u64; PLACES], count: usize) -> Answer
     ensures { number_given result ≡ first_of (list_rules (record { count = count; at = at.now })) }
 {
@@ -37,6 +38,7 @@ pub fn load(at: &[u64; PLACES], count: usize) -> Answer
 }
 
 // Whether a list would not load.
+#[tactic(auto, using(crate::proofs::Laws::accepted_loads, crate::proofs::Laws::refused_unloadable, refusal::proofs::Laws::positive))]
 pub fn unloadable(at: &[u64; PLACES], count: usize) -> bool
     ensures { result ≡ unloadableList (record { count = count; at = at.now }) }
 {
@@ -47,6 +49,7 @@ pub fn unloadable(at: &[u64; PLACES], count: usize) -> bool
 }
 
 // Whether the length is wrong: it is out of its range, or something stands past it.
+#[tactic(auto, unfolding(crate::specs::Lists::wrong_length))]
 fn wrong_length(at: &[u64; PLACES], count: usize) -> bool
     ensures { result ≡ wrong_length (record { count = count; at = at.now }) }
 {
@@ -100,6 +103,7 @@ fn wrong_pair(before: u64, c: u64) -> bool
 }
 
 // Whether the first threshold or the last is out of its range.
+#[tactic(auto, unfolding(crate::specs::Lists::wrong_end))]
 fn wrong_end(at: &[u64; PLACES], count: usize) -> bool
     requires { (0 < count) × (count ≤ places) }
     ensures { result ≡ wrong_end (record { count = count; at = at.now }) }
