@@ -64,6 +64,7 @@ impl Rate {
     };
 
     // The rate that a code names.
+    #[tactic(auto, unfolding(crate::specs::Rates::named, crate::specs::Rates::rate_of))]
     pub fn of(code: u32) -> Named
         ensures { named result ≡ rate_of code }
     {
@@ -79,6 +80,7 @@ impl Rate {
 }
 
 // Whether a code names a rate.
+#[tactic(auto, unfolding(crate::specs::Rates::named, crate::specs::Rates::is_named))]
 pub fn is_named(code: u32) -> bool
     ensures { result ≡ is_named code }
 {
