@@ -64,6 +64,10 @@ word_place n h l =
     let low = from_low 63 n h in
     record { word = pow_lt_cancel {b = 64} (lt_of_le_of_lt low l); low = low; up = from_up 63 n l }
 
+-- the place that the code finds in a word
+pub found : (n b : ℕ) → 0 < n → n < 2 ^ 64 → b ≡ place_up_to 63 n → Place n b
+found n b h f e = subst (λ (p : ℕ). Place n p) (sym e) (word_place n h f)
+
 pub word_place_is : (n b : ℕ) → n < 2 ^ 64 → Place n b → b ≡ place_up_to 63 n
 word_place_is n b l p =
     let q = word_place n (le_trans (pow_pos b) p.low) l in
