@@ -52,7 +52,7 @@ def snake(name):
 
 def defined():
     names = collections.defaultdict(set)
-    for path in sorted(glob.glob("crates/*/specs/*.antt") + glob.glob("crates/*/proofs/*.antt")):
+    for path in sorted(glob.glob("crates/*/specs/**/*.antt", recursive=True) + glob.glob("crates/*/proofs/*.antt")):
         for line in open(path, encoding="utf-8"):
             m = SIGNATURE.match(line) or FIELD.match(line)
             if m:
@@ -80,7 +80,7 @@ def main():
     for name in sorted(names):
         if name in CHOSEN or "-" in name or re.match(r"[a-z]", name) and name != snake(name):
             rename[name] = CHOSEN.get(name, snake(name))
-    files = [f for pattern in ("crates/*/specs/*.antt", "crates/*/proofs/**/*.antt", "crates/*/src/*.rt", "crates/*/must-fail/*.edit",
+    files = [f for pattern in ("crates/*/specs/**/*.antt", "crates/*/proofs/**/*.antt", "crates/*/src/*.rt", "crates/*/must-fail/*.edit",
                              "README.md", "CONTRIBUTING.md", "docs/*.md")
              for f in sorted(glob.glob(pattern, recursive=True))]
     texts = {f: open(f, encoding="utf-8").read() for f in files}

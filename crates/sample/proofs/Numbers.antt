@@ -6,7 +6,7 @@ use lib.ListN.{length, get_or}
 use Rattle.level.specs.declared.Samples.{Samples}
 use Rattle.level.specs.Types.{samples_of, activity}
 use Rattle.sample.specs.Sample.{list_from, counts}
-use Rattle.sample.specs.Inner.Runs.{plainCounts, numbers_of}
+use Rattle.sample.specs.Inner.Runs.{plain_counts, numbers_of}
 
 -- a map, place by place
 pub map_length : {A B : Type 0} (f : A → B) (l : List A) → length (map f l) ≡ length l
@@ -38,6 +38,6 @@ unfolding list_from
 map_list f j zero = refl
 map_list f j (suc k) = ap (λ (l : List Samples). samples_of (f j) ∷ l) (map_list f (j + 1) k)
 
-pub counts_plain : (c : ℕ → ℕ) (k I Q : ℕ) (a h : List ℕ) → counts c k I Q (map samples_of a) h ≡ map samples_of (plainCounts c k I Q a h)
-unfolding counts plainCounts
+pub counts_plain : (c : ℕ → ℕ) (k I Q : ℕ) (a h : List ℕ) → counts c k I Q (map samples_of a) h ≡ map samples_of (plain_counts c k I Q a h)
+unfolding counts plain_counts
 counts_plain c k I Q a h = simp (map_list, activity_of)

@@ -12,20 +12,20 @@ use lib.ListN.{get_or}
 use Rattle.sample.specs.Activity.{counted, hung}
 use Rattle.sample.specs.Sample.{hangovers}
 use Rattle.sample.specs.Inner.Bands.{Clear}
-use Rattle.sample.specs.Inner.Runs.{countOver, hangoverOver, plainCounts, countsBy, hangoversBy}
+use Rattle.sample.specs.Inner.Runs.{count_over, hangover_over, plain_counts, counts_by, hangovers_by}
 use Rattle.sample.proofs.Activity.{counted_le, hung_le}
 use Rattle.thresholds.specs.Lists.{places}
 use Rattle.thresholds.proofs.Places.{filled_at, filled_same}
 
 -- ---- on: every sample counts
 
-pub on_count : (I d a h : ℕ) → countOver I true d a h ≡ a + d
-unfolding countOver counted
+pub on_count : (I d a h : ℕ) → count_over I true d a h ≡ a + d
+unfolding count_over counted
 on_count I zero a h = sym (add-zero a)
 on_count I (suc d) a h = omega (arith, on_count I d a h)
 
-pub on_hangover : (I d h : ℕ) → 0 < d → hangoverOver I true d h ≡ 0
-unfolding hangoverOver hung
+pub on_hangover : (I d h : ℕ) → 0 < d → hangover_over I true d h ≡ 0
+unfolding hangover_over hung
 on_hangover I zero h z = absurd (omega arith)
 on_hangover I (suc d) h z = refl
 
@@ -47,47 +47,47 @@ off_hung I h l = go (ltb h I) refl
     go true e = omega (arith, ltb-true h I e)
     go false e = omega (arith, ltb-false h I e)
 
-pub off_hangover : (I d h : ℕ) → h ≤ I → hangoverOver I false d h ≡ h + min d (I - h)
-unfolding hangoverOver
+pub off_hangover : (I d h : ℕ) → h ≤ I → hangover_over I false d h ≡ h + min d (I - h)
+unfolding hangover_over
 off_hangover I zero h l = omega arith
 off_hangover I (suc d) h l =
     let ih = off_hangover I d h l in
-    off_hung I (hangoverOver I false d h) (omega arith) ∙ next (hangoverOver I false d h) ih
+    off_hung I (hangover_over I false d h) (omega arith) ∙ next (hangover_over I false d h) ih
   where
     next : (H : ℕ) → H ≡ h + min d (I - h) → H + min 1 (I - H) ≡ h + min (suc d) (I - h)
     next H e = omega arith
 
-pub off_count : (I d a h : ℕ) → h ≤ I → countOver I false d a h ≡ a + min d (I - h)
-unfolding countOver
+pub off_count : (I d a h : ℕ) → h ≤ I → count_over I false d a h ≡ a + min d (I - h)
+unfolding count_over
 off_count I zero a h l = omega arith
 off_count I (suc d) a h l =
     let ih = off_count I d a h l in
     let hh = off_hangover I d h l in
-    off_one I (countOver I false d a h) (hangoverOver I false d h) (omega arith) ∙ next (countOver I false d a h) (hangoverOver I false d h) ih hh
+    off_one I (count_over I false d a h) (hangover_over I false d h) (omega arith) ∙ next (count_over I false d a h) (hangover_over I false d h) ih hh
   where
     next : (A H : ℕ) → A ≡ a + min d (I - h) → H ≡ h + min d (I - h) → A + min 1 (I - H) ≡ a + min (suc d) (I - h)
     next A H e g = omega arith
 
 -- an empty run changes nothing
-pub no_count_lem : (I : ℕ) (on : Bool) (d a h : ℕ) → d ≡ 0 → countOver I on d a h ≡ a
-unfolding countOver
-no_count_lem I on d a h e = ap (λ (x : ℕ). countOver I on x a h) e
+pub no_count_lem : (I : ℕ) (on : Bool) (d a h : ℕ) → d ≡ 0 → count_over I on d a h ≡ a
+unfolding count_over
+no_count_lem I on d a h e = ap (λ (x : ℕ). count_over I on x a h) e
 
-pub no_hangover : (I : ℕ) (on : Bool) (d h : ℕ) → d ≡ 0 → hangoverOver I on d h ≡ h
-unfolding hangoverOver
-no_hangover I on d h e = ap (λ (x : ℕ). hangoverOver I on x h) e
+pub no_hangover : (I : ℕ) (on : Bool) (d h : ℕ) → d ≡ 0 → hangover_over I on d h ≡ h
+unfolding hangover_over
+no_hangover I on d h e = ap (λ (x : ℕ). hangover_over I on x h) e
 
 -- ---- bounds
 
-pub count_over_le : (I : ℕ) (on : Bool) (d a h : ℕ) → countOver I on d a h ≤ a + d
-unfolding countOver
+pub count_over_le : (I : ℕ) (on : Bool) (d a h : ℕ) → count_over I on d a h ≤ a + d
+unfolding count_over
 count_over_le I on zero a h = omega arith
-count_over_le I on (suc d) a h = omega (arith, counted_le I on (countOver I on d a h) (hangoverOver I on d h), count_over_le I on d a h)
+count_over_le I on (suc d) a h = omega (arith, counted_le I on (count_over I on d a h) (hangover_over I on d h), count_over_le I on d a h)
 
-pub hangover_over_le : (I : ℕ) (on : Bool) (d h : ℕ) → h ≤ I → hangoverOver I on d h ≤ I
-unfolding hangoverOver
+pub hangover_over_le : (I : ℕ) (on : Bool) (d h : ℕ) → h ≤ I → hangover_over I on d h ≤ I
+unfolding hangover_over
 hangover_over_le I on zero h l = l
-hangover_over_le I on (suc d) h l = hung_le I on (hangoverOver I on d h) (hangover_over_le I on d h l)
+hangover_over_le I on (suc d) h l = hung_le I on (hangover_over I on d h) (hangover_over_le I on d h l)
 
 -- ---- two envelopes in one band are on the same side of every threshold
 
@@ -103,17 +103,17 @@ module _ (c : ℕ → ℕ) (k : ℕ) (few : k ≤ places) (I Q q i : ℕ) (since
   later : (j : ℕ) → i + 1 - get_or since j 0 ≡ suc (i - get_or since j 0)
   later j = omega (arith, before j)
 
-  pub one_hangovers : hangovers c k I q (hangoversBy c k I Q i since h) ≡ hangoversBy c k I Q (i + 1) since h
-  unfolding hangovers hangoversBy hangoverOver
+  pub one_hangovers : hangovers c k I q (hangovers_by c k I Q i since h) ≡ hangovers_by c k I Q (i + 1) since h
+  unfolding hangovers hangovers_by hangover_over
   one_hangovers =
       filled_same places k _ _ (λ j l.
       ap₂ (λ (b : Bool) (x : ℕ). hung I b x) (s j l) (filled_at places k _ j few l)
-      ∙ sym (ap (λ (d : ℕ). hangoverOver I (leb (c j) Q) d (get_or h j 0)) (later j)))
+      ∙ sym (ap (λ (d : ℕ). hangover_over I (leb (c j) Q) d (get_or h j 0)) (later j)))
 
-  pub one_counts : plainCounts c k I q (countsBy c k I Q i since a h) (hangoversBy c k I Q i since h) ≡ countsBy c k I Q (i + 1) since a h
-  unfolding plainCounts countsBy hangoversBy countOver
+  pub one_counts : plain_counts c k I q (counts_by c k I Q i since a h) (hangovers_by c k I Q i since h) ≡ counts_by c k I Q (i + 1) since a h
+  unfolding plain_counts counts_by hangovers_by count_over
   one_counts =
       filled_same places k _ _ (λ j l.
       ap₂ (λ (x y : ℕ). counted I (leb (c j) q) x y) (filled_at places k _ j few l) (filled_at places k _ j few l)
-      ∙ ap (λ (b : Bool). counted I b (countOver I (leb (c j) Q) (i - get_or since j 0) (get_or a j 0) (get_or h j 0)) (hangoverOver I (leb (c j) Q) (i - get_or since j 0) (get_or h j 0))) (s j l)
-      ∙ sym (ap (λ (d : ℕ). countOver I (leb (c j) Q) d (get_or a j 0) (get_or h j 0)) (later j)))
+      ∙ ap (λ (b : Bool). counted I b (count_over I (leb (c j) Q) (i - get_or since j 0) (get_or a j 0) (get_or h j 0)) (hangover_over I (leb (c j) Q) (i - get_or since j 0) (get_or h j 0))) (s j l)
+      ∙ sym (ap (λ (d : ℕ). count_over I (leb (c j) Q) d (get_or a j 0) (get_or h j 0)) (later j)))

@@ -20,7 +20,7 @@ use Rattle.sample.specs.declared.step.Moving.{Moving}
 use Rattle.sample.specs.Sample.{summed, counts, hangovers, state_after_one, state_after}
 use Rattle.sample.specs.Inner.Steps.{moved, ended, Room}
 use Rattle.sample.specs.Inner.Bands.{Clear}
-use Rattle.sample.specs.Inner.Runs.{plainCounts, countsBy, hangoversBy, state_of, led, ledBy, Runnable, Ran}
+use Rattle.sample.specs.Inner.Runs.{plain_counts, counts_by, hangovers_by, state_of, led, led_by, Runnable, Ran}
 use Rattle.sample.proofs.Moved.{Sized, up_to, ended_at, room_less, room_after}
 use Rattle.sample.proofs.Over.{same_side, one_counts, one_hangovers}
 use Rattle.sample.proofs.Numbers.{counts_plain}
@@ -41,7 +41,7 @@ step_is by t m r a h xs i l e =
 
 -- and then into the counters
 count_is : (by : Counting) (t : Thresholds) (r : Sums) (a h : List ℕ) (xs : List ℤ) (i : ℕ) → i < length xs
-    → led by t r a h (drop i xs) ≡ state_after by t (state_of r (plainCounts (threshold_of t) t.count by.i r.q a h) (hangovers (threshold_of t) t.count by.i r.q h)) (drop (i + 1) xs)
+    → led by t r a h (drop i xs) ≡ state_after by t (state_of r (plain_counts (threshold_of t) t.count by.i r.q a h) (hangovers (threshold_of t) t.count by.i r.q h)) (drop (i + 1) xs)
 unfolding led
 count_is by t r a h xs i l = ap (led by t r a h) (split xs i l)
 
@@ -57,7 +57,7 @@ no_more by t m a h xs i l = ap (state_after by t (state_of m a h)) (drop_of_leng
 -- the state at index i, before the sample there: sums that were b and are now at r, and counters that stand for an envelope Q
 abbrev standing_at : Counting → Thresholds → (b : Sums) → Moving → (Q i : ℕ) (since a h : List ℕ) → State
 standing_at by t b r Q i since a h =
-    state_of (ended b r i) (countsBy (threshold_of t) t.count by.i Q i since a h) (hangoversBy (threshold_of t) t.count by.i Q i since h)
+    state_of (ended b r i) (counts_by (threshold_of t) t.count by.i Q i since a h) (hangovers_by (threshold_of t) t.count by.i Q i since h)
 
 -- how the run loop stands at index i: the samples before it are in the sums, and count from where each counter stands
 pub record Going (by : Counting) (low high : ℕ) (m : Moving) (xs : List ℤ) (at : ℕ) (r : Moving) (i : ℕ) : Type 0 where
@@ -65,16 +65,16 @@ pub record Going (by : Counting) (low high : ℕ) (m : Moving) (xs : List ℤ) (
   pub within : i ≤ length xs
   pub room : Room (length xs - i) r
   pub same : (t : Thresholds) → t.count ≤ places → (b : Sums) (Q : ℕ) (since a h : List ℕ) → low ≤ Q → Q < high → Clear (threshold_of t) t.count low high → ((j : ℕ) → get_or since j 0 ≤ at)
-      → ledBy by t b m Q at since a h xs ≡ state_after by t (standing_at by t b r Q i since a h) (drop i xs)
+      → led_by by t b m Q at since a h xs ≡ state_after by t (standing_at by t b r Q i since a h) (drop i xs)
 
 -- a sample whose envelope is in the band counts where each counter stands
 counted_on : (by : Counting) (t : Thresholds) (few : t.count ≤ places) (low high Q : ℕ) (b : Sums) (r : Moving) (since a h : List ℕ) (xs : List ℤ) (i : ℕ) → i < length xs → low ≤ r.q → r.q < high → low ≤ Q → Q < high → Clear (threshold_of t) t.count low high
     → ((j : ℕ) → get_or since j 0 ≤ i)
-    → ledBy by t b r Q i since a h xs ≡ state_after by t (standing_at by t b r Q (i + 1) since a h) (drop (i + 1) xs)
+    → led_by by t b r Q i since a h xs ≡ state_after by t (standing_at by t b r Q (i + 1) since a h) (drop (i + 1) xs)
 counted_on by t few low high Q b r since a h xs i l lq qh p q c before =
     let s = same_side (threshold_of t) t.count low high r.q Q c lq qh p q in
-    let A = countsBy (threshold_of t) t.count by.i Q i since a h in
-    let H = hangoversBy (threshold_of t) t.count by.i Q i since h in
+    let A = counts_by (threshold_of t) t.count by.i Q i since a h in
+    let H = hangovers_by (threshold_of t) t.count by.i Q i since h in
     ap (λ (n : Sums). led by t n A H (drop i xs)) (up_to b r i (length xs) l)
     ∙ count_is by t (ended b r (i + 1)) A H xs i l
     ∙ ap₂ (λ (x y : List ℕ). state_after by t (state_of (ended b r (i + 1)) x y) (drop (i + 1) xs))
@@ -99,9 +99,9 @@ module _ (by : Counting) (low high : ℕ) (m : Moving) (xs : List ℤ) (at : ℕ
   kept : Room (length xs - (i + 1)) s
   kept = room_after by r s _ i (length xs) l k f e g.room
 
-  stepped : (t : Thresholds) (b : Sums) (Q : ℕ) (since a h : List ℕ) → state_after by t (standing_at by t b r Q i since a h) (drop i xs) ≡ ledBy by t b s Q i since a h xs
+  stepped : (t : Thresholds) (b : Sums) (Q : ℕ) (since a h : List ℕ) → state_after by t (standing_at by t b r Q i since a h) (drop i xs) ≡ led_by by t b s Q i since a h xs
   stepped t b Q since a h =
-      step_is by t (ended b r i) (ended b s (min (i + 1) (length xs))) (countsBy (threshold_of t) t.count by.i Q i since a h) (hangoversBy (threshold_of t) t.count by.i Q i since h) xs i l
+      step_is by t (ended b r i) (ended b s (min (i + 1) (length xs))) (counts_by (threshold_of t) t.count by.i Q i since a h) (hangovers_by (threshold_of t) t.count by.i Q i since h) xs i l
       (ended_at by b r s _ i (length xs) l e)
 
   -- it may end the run
@@ -135,7 +135,7 @@ run_out {by} {m = m} {xs = xs} {r = r} {i = i} g h =
       same = λ t few b Q since a h' p q c before.
           g.same t few b Q since a h' p q c before
           ∙ no_more by t (ended b r i) _ _ xs i h
-          ∙ ap (λ (n : Sums). led by t n (countsBy (threshold_of t) t.count by.i Q i since a h') (hangoversBy (threshold_of t) t.count by.i Q i since h') (drop i xs))
+          ∙ ap (λ (n : Sums). led by t n (counts_by (threshold_of t) t.count by.i Q i since a h') (hangovers_by (threshold_of t) t.count by.i Q i since h') (drop i xs))
           (ap (ended b r) (last i (length xs) g.within h));
     }
   where

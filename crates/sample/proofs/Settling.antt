@@ -9,7 +9,7 @@ use borrow.Author.Tests.{eqb-true, eqb-false, ltb-true, ltb-false, leb-true, lt-
 use lib.Dec.{T, eqb, leb, ltb}
 use lib.ListN.{length, get_or, set, length-set}
 use lib.Seq.{get_or-set_same, get_or-set_other}
-use Rattle.sample.specs.Inner.Runs.{countOver, hangoverOver, Standing, SettledAt, Settled, between}
+use Rattle.sample.specs.Inner.Runs.{count_over, hangover_over, Standing, SettledAt, Settled, between}
 use Rattle.sample.proofs.Over.{no_count_lem, no_hangover, count_over_le, hangover_over_le}
 
 -- ---- places
@@ -90,7 +90,7 @@ all_places was k j l = go (ltb j was) refl
 pub none_yet : (k I at from : ℕ) (on : Bool) (a h since : List ℕ) → k ≡ length a → k ≡ length h → k ≡ length since
     → Settled k I at (λ j. between from from j) (λ _. on) a h since a h since
 none_yet k I at from on a h since la lh ls =
-    record { a_length = la; h_length = lh; since_length = ls; each-one = λ j. go j (between from from j) refl }
+    record { a_length = la; h_length = lh; since_length = ls; each_one = λ j. go j (between from from j) refl }
   where
     go : (j : ℕ) (t : Bool) → between from from j ≡ t → SettledAt I at (between from from j) on (get_or a j 0) (get_or h j 0) (get_or since j 0) (get_or a j 0) (get_or h j 0) (get_or since j 0)
     go j true e = let p = in_between from from j e in absurd (omega (arith, p.0, p.1))
@@ -102,9 +102,9 @@ module _ (k I at from : ℕ) (on : Bool) (a₀ h₀ s₀ a h s : List ℕ) (j : 
   -- the place is as it was
   pub untouched : SettledAt I at false on (get_or a₀ j 0) (get_or h₀ j 0) (get_or s₀ j 0) (get_or a j 0) (get_or h j 0) (get_or s j 0)
   untouched =
-      subst (λ (t : Bool). SettledAt I at t on (get_or a₀ j 0) (get_or h₀ j 0) (get_or s₀ j 0) (get_or a j 0) (get_or h j 0) (get_or s j 0)) (between_past from j j (omega arith)) (so_far.each-one j)
+      subst (λ (t : Bool). SettledAt I at t on (get_or a₀ j 0) (get_or h₀ j 0) (get_or s₀ j 0) (get_or a j 0) (get_or h j 0) (get_or s j 0)) (between_past from j j (omega arith)) (so_far.each_one j)
 
-  module _ (v w : ℕ) (ev : v ≡ countOver I on (at - get_or s j 0) (get_or a j 0) (get_or h j 0)) (ew : w ≡ hangoverOver I on (at - get_or s j 0) (get_or h j 0)) where
+  module _ (v w : ℕ) (ev : v ≡ count_over I on (at - get_or s j 0) (get_or a j 0) (get_or h j 0)) (ew : w ≡ hangover_over I on (at - get_or s j 0) (get_or h j 0)) where
     here : SettledAt I at true on (get_or a₀ j 0) (get_or h₀ j 0) (get_or s₀ j 0) (get_or (set a j v) j 0) (get_or (set h j w) j 0) (get_or (set s j at) j 0)
     here =
         let u = untouched in
@@ -123,7 +123,7 @@ module _ (k I at from : ℕ) (on : Bool) (a₀ h₀ s₀ a h s : List ℕ) (j : 
         (sym (between_in from (j + 1) j l (omega arith))) here)
     each i false e =
         let f = eqb-false i j e in
-        let p = so_far.each-one i in
+        let p = so_far.each_one i in
         subst (λ (t : Bool). SettledAt I at t on (get_or a₀ i 0) (get_or h₀ i 0) (get_or s₀ i 0) (get_or (set a j v) i 0) (get_or (set h j w) i 0) (get_or (set s j at) i 0))
         (sym (between_other from j i f))
         (record {
@@ -138,7 +138,7 @@ module _ (k I at from : ℕ) (on : Bool) (a₀ h₀ s₀ a h s : List ℕ) (j : 
           a_length = so_far.a_length ∙ sym (length-set a j v);
           h_length = so_far.h_length ∙ sym (length-set h j w);
           since_length = so_far.since_length ∙ sym (length-set s j at);
-          each-one = λ i. each i (eqb i j) refl;
+          each_one = λ i. each i (eqb i j) refl;
         }
 
 -- the places, and the side on which the envelope was at each of them, may be told in another way
@@ -156,7 +156,7 @@ by_places k I at one other on₁ on a h s a' h' s' e f p =
       a_length = p.a_length;
       h_length = p.h_length;
       since_length = p.since_length;
-      each-one = λ j. told_at I at (one j) (other j) (on₁ j) (on j) _ _ _ _ _ _ (e j) (f j) (p.each-one j);
+      each_one = λ j. told_at I at (one j) (other j) (on₁ j) (on j) _ _ _ _ _ _ (e j) (f j) (p.each_one j);
     }
 
 -- ---- twice
@@ -167,8 +167,8 @@ twice_at : (I at : ℕ) (one two on₁ on₂ on : Bool) (a h s a₁ h₁ s₁ a�
 twice_at I at true true on₁ on₂ on a h s a₁ h₁ s₁ a₂ h₂ s₂ f g k p q = absurd (subst T (f refl) tt)
 twice_at I at true false on₁ on₂ on a h s a₁ h₁ s₁ a₂ h₂ s₂ f g k p q =
     record {
-      count = q.count ∙ p.count ∙ ap (λ (b : Bool). countOver I b (at - s) a h) (g refl);
-      hangover = q.hangover ∙ p.hangover ∙ ap (λ (b : Bool). hangoverOver I b (at - s) h) (g refl);
+      count = q.count ∙ p.count ∙ ap (λ (b : Bool). count_over I b (at - s) a h) (g refl);
+      hangover = q.hangover ∙ p.hangover ∙ ap (λ (b : Bool). hangover_over I b (at - s) h) (g refl);
       index = q.index ∙ p.index;
     }
 twice_at I at false true on₁ on₂ on a h s a₁ h₁ s₁ a₂ h₂ s₂ f g k p q =
@@ -188,20 +188,20 @@ twice k I at one two on₁ on₂ on a h s a₁ h₁ s₁ a₂ h₂ s₂ f g o p 
       a_length = q.a_length;
       h_length = q.h_length;
       since_length = q.since_length;
-      each-one = λ j.
+      each_one = λ j.
           twice_at I at (one j) (two j) (on₁ j) (on₂ j) (on j) (get_or a j 0) (get_or h j 0) (get_or s j 0) (get_or a₁ j 0) (get_or h₁ j 0) (get_or s₁ j 0) (get_or a₂ j 0) (get_or h₂ j 0) (get_or s₂ j 0)
-          (f j) (g j) (o j) (p.each-one j) (q.each-one j);
+          (f j) (g j) (o j) (p.each_one j) (q.each_one j);
     }
 
 -- ---- what a settled counter stands for, whatever side of its threshold the envelope is on from there on
 
 pub stands_count : (I at : ℕ) (one on is : Bool) (a h s a' h' s' : ℕ) → SettledAt I at one on a h s a' h' s' → (one ≡ false → on ≡ is)
-    → countOver I is (at - s') a' h' ≡ countOver I on (at - s) a h
+    → count_over I is (at - s') a' h' ≡ count_over I on (at - s) a h
 stands_count I at true on is a h s a' h' s' p f = no_count_lem I is (at - s') a' h' (ap (λ (x : ℕ). at - x) p.index ∙ sub_self at) ∙ p.count
 stands_count I at false on is a h s a' h' s' p f = cc (f refl, p.count, p.hangover, p.index)
 
 pub stands_hangover : (I at : ℕ) (one on is : Bool) (a h s a' h' s' : ℕ) → SettledAt I at one on a h s a' h' s' → (one ≡ false → on ≡ is)
-    → hangoverOver I is (at - s') h' ≡ hangoverOver I on (at - s) h
+    → hangover_over I is (at - s') h' ≡ hangover_over I on (at - s) h
 stands_hangover I at true on is a h s a' h' s' p f = no_hangover I is (at - s') h' (ap (λ (x : ℕ). at - x) p.index ∙ sub_self at) ∙ p.hangover
 stands_hangover I at false on is a h s a' h' s' p f = cc (f refl, p.hangover, p.index)
 
@@ -231,7 +231,7 @@ still_standing k I at one on a h s a' h' s' p q =
       a_length = q.a_length;
       h_length = q.h_length;
       since_length = q.since_length;
-      index = λ j. index_le I at (one j) (on j) _ _ _ _ _ _ (q.each-one j) (p.index j);
-      room = λ j. room_at I at (one j) (on j) _ _ _ _ _ _ (q.each-one j) (p.room j);
-      h_max = λ j. hangover_le I at (one j) (on j) _ _ _ _ _ _ (q.each-one j) (p.h_max j);
+      index = λ j. index_le I at (one j) (on j) _ _ _ _ _ _ (q.each_one j) (p.index j);
+      room = λ j. room_at I at (one j) (on j) _ _ _ _ _ _ (q.each_one j) (p.room j);
+      h_max = λ j. hangover_le I at (one j) (on j) _ _ _ _ _ _ (q.each_one j) (p.h_max j);
     }

@@ -21,7 +21,7 @@ use Rattle.sample.specs.declared.step.Moving.{Moving}
 use Rattle.sample.specs.Sample.{each, summed, state_after}
 use Rattle.sample.specs.Inner.Bands.{Around}
 use Rattle.sample.specs.Inner.Steps.{begun, moved, ended, Room}
-use Rattle.sample.specs.Inner.Runs.{countOver, hangoverOver, countsBy, hangoversBy, Standing, SettledAt, Settled, between, state_of, led, ledBy, Ran}
+use Rattle.sample.specs.Inner.Runs.{count_over, hangover_over, counts_by, hangovers_by, Standing, SettledAt, Settled, between, state_of, led, led_by, Ran}
 use Rattle.sample.proofs.Bands.{clear, sides}
 use Rattle.thresholds.proofs.Places.{list_length, each_at, filled_same, is_filled_lem, at_or_past}
 use Rattle.sample.proofs.Over.{no_count_lem, no_hangover}
@@ -40,10 +40,10 @@ past_all was k j l g = ap₂ ◌||◌ (apart 0 was j (λ b. absurd (omega (arith
 
 module _ (I at : ℕ) (one on : Bool) (a h s a' h' s' : ℕ) (S : SettledAt I at one on a h s a' h' s') (e : one ≡ false) where
   alone_count : a' ≡ a
-  alone_count = S.count ∙ ap (λ (b : Bool). cond b (countOver I on (at - s) a h) a) e
+  alone_count = S.count ∙ ap (λ (b : Bool). cond b (count_over I on (at - s) a h) a) e
 
   alone_hangover : h' ≡ h
-  alone_hangover = S.hangover ∙ ap (λ (b : Bool). cond b (hangoverOver I on (at - s) h) h) e
+  alone_hangover = S.hangover ∙ ap (λ (b : Bool). cond b (hangover_over I on (at - s) h) h) e
 
 -- ---- the loop
 
@@ -62,7 +62,7 @@ pub record Turning (by : Counting) (T : Thresholds) (b : Sums) (a₀ h₀ : List
   pub a_past : (j : ℕ) → T.count ≤ j → get_or a j 0 ≡ 0
   pub h_past : (j : ℕ) → T.count ≤ j → get_or h j 0 ≡ 0
   pub around : Around (threshold_of T) T.count m.q band
-  pub rest : ledBy by T b m band.low at since a h xs ≡ state_after by T (state_of b a₀ h₀) xs
+  pub rest : led_by by T b m band.low at since a h xs ≡ state_after by T (state_of b a₀ h₀) xs
 
 -- ---- the start
 
@@ -78,12 +78,12 @@ module _ (T : Thresholds) (I Q : ℕ) (a h : List ℕ) (la : places ≡ length a
   none_since : (j : ℕ) → 0 - get_or zeros j 0 ≡ 0
   none_since j = omega (arith, zeros_at j)
 
-  at_first_counts : a ≡ countsBy (threshold_of T) T.count I Q 0 zeros a h
-  unfolding countsBy
+  at_first_counts : a ≡ counts_by (threshold_of T) T.count I Q 0 zeros a h
+  unfolding counts_by
   at_first_counts = is_filled_lem places T.count a _ la (λ j l. sym (no_count_lem I (leb (threshold_of T j) Q) _ (get_or a j 0) (get_or h j 0) (none_since j))) pa
 
-  at_first_hangovers : h ≡ hangoversBy (threshold_of T) T.count I Q 0 zeros h
-  unfolding hangoversBy
+  at_first_hangovers : h ≡ hangovers_by (threshold_of T) T.count I Q 0 zeros h
+  unfolding hangovers_by
   at_first_hangovers = is_filled_lem places T.count h _ lh (λ j l. sym (no_hangover I (leb (threshold_of T j) Q) _ (get_or h j 0) (none_since j))) ph
 
 -- the first sample, and room for it and the others
@@ -141,21 +141,21 @@ module _ (by : Counting) (T : Thresholds) (b : Sums) (a₀ h₀ : List ℕ) (xs 
 
   module _ (r : Moving) (end : ℕ) (next : Band) (R : Ran by band.low band.high m xs at r end) (A : Around (threshold_of T) T.count r.q next)
       (a' h' since' : List ℕ) (S : Settled places by.i end (λ j. between band.below next.below j || between next.below band.below j) (λ j. ltb j band.below) a h since a' h' since') where
-    same_counts : countsBy (threshold_of T) T.count by.i next.low end since' a' h' ≡ countsBy (threshold_of T) T.count by.i band.low end since a h
-    unfolding countsBy
+    same_counts : counts_by (threshold_of T) T.count by.i next.low end since' a' h' ≡ counts_by (threshold_of T) T.count by.i band.low end since a h
+    unfolding counts_by
     same_counts =
         filled_same places T.count _ _ (λ j l.
-        ap (λ (o : Bool). countOver by.i o (end - get_or since' j 0) (get_or a' j 0) (get_or h' j 0)) (sides (threshold_of T) T.count t.list.rises _ next A j l)
-        ∙ stands_count by.i end _ _ _ (get_or a j 0) (get_or h j 0) (get_or since j 0) (get_or a' j 0) (get_or h' j 0) (get_or since' j 0) (S.each-one j) (uncrossed band.below next.below j)
-        ∙ ap (λ (o : Bool). countOver by.i o (end - get_or since j 0) (get_or a j 0) (get_or h j 0)) (sym (reached j l)))
+        ap (λ (o : Bool). count_over by.i o (end - get_or since' j 0) (get_or a' j 0) (get_or h' j 0)) (sides (threshold_of T) T.count t.list.rises _ next A j l)
+        ∙ stands_count by.i end _ _ _ (get_or a j 0) (get_or h j 0) (get_or since j 0) (get_or a' j 0) (get_or h' j 0) (get_or since' j 0) (S.each_one j) (uncrossed band.below next.below j)
+        ∙ ap (λ (o : Bool). count_over by.i o (end - get_or since j 0) (get_or a j 0) (get_or h j 0)) (sym (reached j l)))
 
-    same_hangovers : hangoversBy (threshold_of T) T.count by.i next.low end since' h' ≡ hangoversBy (threshold_of T) T.count by.i band.low end since h
-    unfolding hangoversBy
+    same_hangovers : hangovers_by (threshold_of T) T.count by.i next.low end since' h' ≡ hangovers_by (threshold_of T) T.count by.i band.low end since h
+    unfolding hangovers_by
     same_hangovers =
         filled_same places T.count _ _ (λ j l.
-        ap (λ (o : Bool). hangoverOver by.i o (end - get_or since' j 0) (get_or h' j 0)) (sides (threshold_of T) T.count t.list.rises _ next A j l)
-        ∙ stands_hangover by.i end _ _ _ (get_or a j 0) (get_or h j 0) (get_or since j 0) (get_or a' j 0) (get_or h' j 0) (get_or since' j 0) (S.each-one j) (uncrossed band.below next.below j)
-        ∙ ap (λ (o : Bool). hangoverOver by.i o (end - get_or since j 0) (get_or h j 0)) (sym (reached j l)))
+        ap (λ (o : Bool). hangover_over by.i o (end - get_or since' j 0) (get_or h' j 0)) (sides (threshold_of T) T.count t.list.rises _ next A j l)
+        ∙ stands_hangover by.i end _ _ _ (get_or a j 0) (get_or h j 0) (get_or since j 0) (get_or a' j 0) (get_or h' j 0) (get_or since' j 0) (S.each_one j) (uncrossed band.below next.below j)
+        ∙ ap (λ (o : Bool). hangover_over by.i o (end - get_or since j 0) (get_or h j 0)) (sym (reached j l)))
 
     unmoved : (j : ℕ) → T.count ≤ j → (between band.below next.below j || between next.below band.below j) ≡ false
     unmoved j l = outside band.below next.below T.count j t.around.band.few A.band.few l
@@ -169,11 +169,11 @@ module _ (by : Counting) (T : Thresholds) (b : Sums) (a₀ h₀ : List ℕ) (xs 
           a_length = S.a_length;
           h_length = S.h_length;
           since_length = S.since_length;
-          index = λ j. index_le by.i end _ _ _ _ _ _ _ _ (S.each-one j) (before j);
-          a_max = λ j. count_le by.i end _ _ _ _ _ _ _ _ (S.each-one j) b.n.0 (before j) (t.a_max j);
-          h_max = λ j. hangover_le by.i end _ _ _ _ _ _ _ _ (S.each-one j) (t.h_max j);
-          a_past = λ j l. alone_count by.i end _ _ _ _ _ _ _ _ (S.each-one j) (unmoved j l) ∙ t.a_past j l;
-          h_past = λ j l. alone_hangover by.i end _ _ _ _ _ _ _ _ (S.each-one j) (unmoved j l) ∙ t.h_past j l;
+          index = λ j. index_le by.i end _ _ _ _ _ _ _ _ (S.each_one j) (before j);
+          a_max = λ j. count_le by.i end _ _ _ _ _ _ _ _ (S.each_one j) b.n.0 (before j) (t.a_max j);
+          h_max = λ j. hangover_le by.i end _ _ _ _ _ _ _ _ (S.each_one j) (t.h_max j);
+          a_past = λ j l. alone_count by.i end _ _ _ _ _ _ _ _ (S.each_one j) (unmoved j l) ∙ t.a_past j l;
+          h_past = λ j l. alone_hangover by.i end _ _ _ _ _ _ _ _ (S.each_one j) (unmoved j l) ∙ t.h_past j l;
           around = A;
           rest =
               ap₂ (λ (x y : List ℕ). led by T (ended b r (min (end + 1) (length xs))) x y (drop end xs)) same_counts same_hangovers
@@ -190,27 +190,27 @@ module _ (by : Counting) (T : Thresholds) (b : Sums) (a₀ h₀ : List ℕ) (xs 
     unsettled : (j : ℕ) → T.count ≤ j → (between 0 band.below j || between band.below T.count j) ≡ false
     unsettled j l = past_all band.below T.count j t.around.band.few l
 
-    last_counts : a' ≡ countsBy (threshold_of T) T.count by.i band.low at since a h
-    unfolding countsBy
+    last_counts : a' ≡ counts_by (threshold_of T) T.count by.i band.low at since a h
+    unfolding counts_by
     last_counts =
         is_filled_lem places T.count a' _ S.a_length (λ j l.
-        (S.each-one j).count
-        ∙ ap (λ (b : Bool). cond b (countOver by.i (ltb j band.below) (at - get_or since j 0) (get_or a j 0) (get_or h j 0)) (get_or a j 0)) (all_places band.below T.count j l)
-        ∙ ap (λ (o : Bool). countOver by.i o (at - get_or since j 0) (get_or a j 0) (get_or h j 0)) (sym (reached j l)))
-        (λ j l. alone_count by.i at _ _ _ _ _ _ _ _ (S.each-one j) (unsettled j l) ∙ t.a_past j l)
+        (S.each_one j).count
+        ∙ ap (λ (b : Bool). cond b (count_over by.i (ltb j band.below) (at - get_or since j 0) (get_or a j 0) (get_or h j 0)) (get_or a j 0)) (all_places band.below T.count j l)
+        ∙ ap (λ (o : Bool). count_over by.i o (at - get_or since j 0) (get_or a j 0) (get_or h j 0)) (sym (reached j l)))
+        (λ j l. alone_count by.i at _ _ _ _ _ _ _ _ (S.each_one j) (unsettled j l) ∙ t.a_past j l)
 
-    last_hangovers : h' ≡ hangoversBy (threshold_of T) T.count by.i band.low at since h
-    unfolding hangoversBy
+    last_hangovers : h' ≡ hangovers_by (threshold_of T) T.count by.i band.low at since h
+    unfolding hangovers_by
     last_hangovers =
         is_filled_lem places T.count h' _ S.h_length (λ j l.
-        (S.each-one j).hangover
-        ∙ ap (λ (b : Bool). cond b (hangoverOver by.i (ltb j band.below) (at - get_or since j 0) (get_or h j 0)) (get_or h j 0)) (all_places band.below T.count j l)
-        ∙ ap (λ (o : Bool). hangoverOver by.i o (at - get_or since j 0) (get_or h j 0)) (sym (reached j l)))
-        (λ j l. alone_hangover by.i at _ _ _ _ _ _ _ _ (S.each-one j) (unsettled j l) ∙ t.h_past j l)
+        (S.each_one j).hangover
+        ∙ ap (λ (b : Bool). cond b (hangover_over by.i (ltb j band.below) (at - get_or since j 0) (get_or h j 0)) (get_or h j 0)) (all_places band.below T.count j l)
+        ∙ ap (λ (o : Bool). hangover_over by.i o (at - get_or since j 0) (get_or h j 0)) (sym (reached j l)))
+        (λ j l. alone_hangover by.i at _ _ _ _ _ _ _ _ (S.each_one j) (unsettled j l) ∙ t.h_past j l)
 
     pub finished : length xs ≤ at → state_of (ended b m (length xs)) a' h' ≡ state_after by T (state_of b a₀ h₀) xs
     finished l =
         ap₂ (λ (x y : List ℕ). state_of (ended b m (length xs)) x y) last_counts last_hangovers
-        ∙ ap (λ (s : Sums). state_of s (countsBy (threshold_of T) T.count by.i band.low at since a h) (hangoversBy (threshold_of T) T.count by.i band.low at since h)) (sym (up_to_end b m at (length xs) l))
+        ∙ ap (λ (s : Sums). state_of s (counts_by (threshold_of T) T.count by.i band.low at since a h) (hangovers_by (threshold_of T) T.count by.i band.low at since h)) (sym (up_to_end b m at (length xs) l))
         ∙ sym (none_left by T (ended b m (min (at + 1) (length xs))) _ _ xs at l)
         ∙ t.rest

@@ -2,7 +2,7 @@
 // band to band, up or down, with one threshold read for each.
 ghost use Rattle.std.specs.Prelude.{◌≡◌, ◌≤◌, ◌<◌, get_or};
 ghost use Rattle.thresholds.specs.Lists.{places};
-ghost use Rattle.sample.specs.Inner.Bands.{low_end, highEnd, IsBand, IsUp, IsDown, Around, Searchable, Fallen, Risen, Upward, Downward};
+ghost use Rattle.sample.specs.Inner.Bands.{low_end, high_end, IsBand, IsUp, IsDown, Around, Searchable, Fallen, Risen, Upward, Downward};
 
 use thresholds::PLACES;
 
@@ -97,7 +97,7 @@ impl Band {
 // Where the band with so many thresholds below it ends.
 fn high_end(c: &[u64; PLACES], count: usize, p: usize) -> u64
     requires { count ≤ places }
-    ensures { result ≡ highEnd (λ j. get_or c.now j 0) count p }
+    ensures { result ≡ high_end (λ j. get_or c.now j 0) count p }
 {
     if p < count { c[p] } else { TOP }
 }

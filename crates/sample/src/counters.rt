@@ -2,7 +2,7 @@
 // envelope has been on one side of its threshold; settling brings it up to date.
 ghost use Rattle.std.specs.Prelude.{◌||◌, ◌≡◌, ◌≤◌, min, ltb};
 ghost use Rattle.thresholds.specs.Lists.{places};
-ghost use Rattle.sample.specs.Inner.Runs.{Crossable, Standing, Settled, Countable, between, countOver, hangoverOver};
+ghost use Rattle.sample.specs.Inner.Runs.{Crossable, Standing, Settled, Countable, between, count_over, hangover_over};
 
 use thresholds::PLACES;
 
@@ -75,7 +75,7 @@ fn settle(
 // hangover has left.
 fn counted(hangover: u64, on: bool, run: u64, a: u64, h: u64) -> u64
     requires { Countable hangover run a h }
-    ensures { result ≡ countOver hangover on run a h }
+    ensures { result ≡ count_over hangover on run a h }
 {
     if on {
         a + run
@@ -87,7 +87,7 @@ fn counted(hangover: u64, on: bool, run: u64, a: u64, h: u64) -> u64
 // A hangover after a run. A run may be empty.
 fn hung(hangover: u64, on: bool, run: u64, h: u64) -> u64
     requires { h ≤ hangover }
-    ensures { result ≡ hangoverOver hangover on run h }
+    ensures { result ≡ hangover_over hangover on run h }
 {
     if !on {
         return h + least(run, hangover - h);

@@ -1,7 +1,7 @@
 -- Levels in steps: how large they are, and what is said of each.
 use Rattle.std.specs.Prelude.{◌≡◌, ℕ, ◌^◌, ◌≤◌, ℤ, pos, nat_abs, ◌-ℤ◌}
 use Rattle.level.specs.Logarithm.{lev}
-use Rattle.crossing.specs.Levels.{levelOfThreshold}
+use Rattle.crossing.specs.Levels.{level_of_threshold}
 
 -- steps of at most 2^k, either way
 abbrev pub Within : (k : ℕ) → ℤ → Type 0
@@ -26,11 +26,11 @@ pub record OverCount (S : ℤ) (n : ℕ) : Type 0 where
   pub power : InRange S
   pub some : 1 ≤ n
 
-abbrev pub levelOver : (S : ℤ) (n : ℕ) → ℤ
-levelOver S n = S -ℤ pos (lev n)
+abbrev pub level_over : (S : ℤ) (n : ℕ) → ℤ
+level_over S n = S -ℤ pos (lev n)
 
 abbrev pub IsLevel : (S : ℤ) (n : ℕ) (r : ℤ) → Type 0
-IsLevel S n r = Sized 21 (levelOver S n) r
+IsLevel S n r = Sized 21 (level_over S n) r
 
 -- the same of a difference at a threshold, for a count
 pub record Placed (M S : ℤ) (n c : ℕ) : Type 0 where
@@ -39,4 +39,4 @@ pub record Placed (M S : ℤ) (n c : ℕ) : Type 0 where
   pub threshold : 1 ≤ c
 
 abbrev pub IsExcess : (M S : ℤ) (n c : ℕ) (r : ℤ) → Type 0
-IsExcess M S n c r = Sized 22 (levelOver S n -ℤ levelOfThreshold c -ℤ M) r
+IsExcess M S n c r = Sized 22 (level_over S n -ℤ level_of_threshold c -ℤ M) r

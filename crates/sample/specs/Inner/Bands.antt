@@ -17,13 +17,13 @@ low_end c zero = 0
 low_end c (suc p) = c p
 
 -- and where it ends: at the next, or where no envelope comes
-unfoldable pub highEnd : (c : ℕ → ℕ) (k p : ℕ) → ℕ
-highEnd c k p = cond (ltb p k) (c p) top
+unfoldable pub high_end : (c : ℕ → ℕ) (k p : ℕ) → ℕ
+high_end c k p = cond (ltb p k) (c p) top
 
 pub record IsBand (c : ℕ → ℕ) (k : ℕ) (b : Band) : Type 0 where
   pub few : b.below ≤ k
   pub low : b.low ≡ low_end c b.below
-  pub high : b.high ≡ highEnd c k b.below
+  pub high : b.high ≡ high_end c k b.below
 
 -- the band around q
 pub record Around (c : ℕ → ℕ) (k q : ℕ) (b : Band) : Type 0 where
@@ -35,7 +35,7 @@ pub record Around (c : ℕ → ℕ) (k q : ℕ) (b : Band) : Type 0 where
 pub record Searchable (c : ℕ → ℕ) (k q : ℕ) (b : Band) : Type 0 where
   pub few : k ≤ places
   pub band : IsBand c k b
-  pub q-max : q ≤ 2 ^ 40
+  pub q_max : q ≤ 2 ^ 40
 
 -- one that begins above q, and one that does not
 pub record Fallen (c : ℕ → ℕ) (k q : ℕ) (b : Band) : Type 0 where
