@@ -102,7 +102,7 @@ unfolding wrong_entry
 entries_in t u j h =
     let x = threshold_of t j in
     let y = threshold_of t (j + 1) in
-    leb-false y x (neither (leb y x) (ltb (2 * x) y) (each_below (t.count - 1) (pair_at t) u j (omega arith))).0
+    leb-false y x (neither (leb y x) _ (each_below (t.count - 1) (pair_at t) u j (omega arith))).0
 
 ends_in : (t : Thresholds) → wrong_end t ≡ false → (2 ^ 22 ≤ threshold_of t 0) × (threshold_of t (t.count - 1) ≤ 2 ^ 39)
 unfolding wrong_end
