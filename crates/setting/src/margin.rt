@@ -13,6 +13,7 @@ const LARGEST: i64 = 22314;
 const MARKED_BELOW: i64 = 20955;
 
 // Whether a margin is out of range.
+#[tactic(auto, unfolding(crate::specs::Settings::wrong_margin))]
 pub fn wrong_margin(margin: Steps) -> bool
     ensures { result ≡ wrong_margin margin.0 }
 {
