@@ -13,15 +13,19 @@ use mir.Syntax.{w64}
 use mir.Val.{SFits, to_z, of_z}
 use mir.Facts.{to_z-of_z}
 use Rattle.signed.proofs.Sizes.{fits}
-use Rattle.level.specs.Logarithm.{lev}
+use Rattle.level.specs.Logarithm.{lev, level_of, value_of, steps_in}
 use Rattle.level.specs.Types.{activity, steps_of}
+use Rattle.level.specs.declared.Level.{Level}
 use Rattle.level.specs.declared.Samples.{Samples}
 use Rattle.level.specs.declared.Steps.{Steps}
-use Rattle.level.proofs.Laws.{facts, pow_lt_cancel}
+use Rattle.level.proofs.Laws.{facts, level_known, pow_lt_cancel}
 use Rattle.level.proofs.Powers.{pow_mul}
 use Rattle.crossing.specs.Crossing.{is_zero}
 use Rattle.crossing.specs.Inner.FindLevels.{Falling}
-use Rattle.crossing.specs.Inner.Steps.{TwoSmall}
+use Rattle.crossing.specs.Inner.Steps.{TwoSmall, IsLevel, IsExcess}
+use Rattle.crossing.specs.Levels.{active_at, excess}
+use Rattle.thresholds.specs.declared.Thresholds.{Thresholds}
+use Rattle.thresholds.specs.Lists.{threshold_of}
 
 -- 2^l ≤ n^x and n ≤ 2^b give l ≤ b·x
 exponent : (l n b x : ℕ) → 2 ^ l ≤ n ^ x → n ≤ 2 ^ b → l < suc (b * x)
@@ -37,6 +41,10 @@ lev_max n h u = omega (arith, exponent (lev n) n 80 4096 (facts.at_most n h u) u
 pub lev_word : (n : ℕ) → 1 ≤ n → n < 2 ^ 64 → lev n ≤ 2 ^ 18
 lev_word n h u = omega (arith, exponent (lev n) n 64 4096 (facts.at_most n h (omega arith)) (omega arith))
 
+-- the level of a word, as the code reads it
+pub level_is : (n : ℕ) (l : Level) (s : ℤ) → 1 ≤ n → n < 2 ^ 64 → value_of l ≡ level_of n → s ≡ steps_in l → s ≡ pos (lev n)
+level_is n l s h u v e = e ∙ level_known n l h (omega arith) v
+
 -- counts that fall: each is at most the one before, and the first
 pub falls : (k : ℕ) (a : List Samples) → Falling k a → (j : ℕ) → j < k → 1 ≤ j → activity a j ≤ activity a (j - 1)
 falls k a f j l h = let e : j - 1 + 1 ≡ j = omega arith in subst (λ (i : ℕ). activity a i ≤ activity a (j - 1)) e (f.falls (j - 1) (omega arith))
@@ -51,6 +59,15 @@ few k a f (suc j) l =
 
 pub held : {r : Steps} {x : ℤ} → r ≡ steps_of x → r.0 ≡ x
 held e = ap (λ (s : Steps). s.0) e
+
+-- A_j and d_j, as the code reads them
+pub level_read : (S : ℤ) (a : List Samples) (j : ℕ) (x : Steps) → IsLevel S (activity a j) x.0 → x.0 ≡ active_at S a j
+unfolding active_at
+level_read S a j x e = e.is
+
+pub excess_read : (M S : ℤ) (t : Thresholds) (a : List Samples) (j : ℕ) (x : Steps) → IsExcess M S (activity a j) (threshold_of t j) x.0 → x.0 ≡ excess M S t a j
+unfolding excess active_at
+excess_read M S t a j x e = e.is
 
 -- the test of a word against 0
 pub zero_test : (z : ℤ) → mag z < 2 ^ 63 → eqb (of_z w64 z) 0 ≡ is_zero z
