@@ -1,9 +1,9 @@
 -- What the parts found is what the definition says of the highest crossing.
-use mathlib.Core.Option.{Option, none, some}
-use Rattle.std.proofs.Common.{Bool, true, false, cond, List, ◌≡◌, refl, ap, ap₂, ◌∙◌, sym, ℕ, ◌≤◌, ◌^◌, ℤ, pos, nat_abs, ◌-ℤ◌, arith}
+use mathlib.Core.Option.{none, some}
+use Rattle.std.proofs.Common.{Bool, true, false, cond, List, ◌≡◌, refl, ap, ap₂, ◌∙◌, sym, ℕ, ℤ, pos, nat_abs, ◌-ℤ◌, arith}
 use lib.Signed.{lt_z}
 use Rattle.level.specs.Logarithm.{lev, level_of, value_of, steps_in}
-use Rattle.level.specs.Types.{steps_of, two_words, activity}
+use Rattle.level.specs.Types.{steps_of, activity}
 use Rattle.level.specs.declared.Level.{Level}
 use Rattle.level.specs.declared.Samples.{Samples}
 use Rattle.level.specs.declared.Steps.{Steps}
@@ -11,7 +11,6 @@ use Rattle.thresholds.specs.declared.Thresholds.{Thresholds}
 use Rattle.thresholds.specs.Lists.{threshold_of}
 use Rattle.level.proofs.Laws.{level_known}
 use Rattle.crossing.specs.declared.Levels.{Levels}
-use Rattle.crossing.specs.declared.Found.{Found}
 use Rattle.crossing.specs.declared.Found.TheVariants.{At, Below, Above}
 use Rattle.crossing.specs.declared.interpolation.Active.{Active}
 use Rattle.crossing.specs.declared.search.Place.{Place}
@@ -82,7 +81,7 @@ module _ {M : ℤ} {n sq : ℕ} {T : Thresholds} {a : List Samples} (m : Measure
       (y.lower ∙ ap (λ (z : ℤ). lower_of M z T a j) power_is) refl)
 
   -- none, by the sign of d_0
-  answered_none : none ≡ crossing M S.0 T a → (d : Steps) → IsExcess M S.0 (activity a 0) (threshold_of T 0) d.0 → (t : Bool) → lt_z d.0 (pos 0) ≡ t
+  answered_none : place_of Nowhere ≡ crossing M S.0 T a → (d : Steps) → IsExcess M S.0 (activity a 0) (threshold_of T 0) d.0 → (t : Bool) → lt_z d.0 (pos 0) ≡ t
       → said (cond t Below Above) ≡ searched M n sq T a
   unfolding place_of
   answered_none f d x t b =
@@ -97,7 +96,7 @@ over-level-requires c =
     record { power = (searchable c.requires c.level.result c.steps-power.result c.level.ensures c.steps-power.ensures).power; some = c.requires.n_pos }
 
 pub at_crossing-at-requires : goal.at_crossing-at-requires
-at_crossing-at-requires c = at c.requires c.level.result c.steps-power.result c.level.ensures c.steps-power.ensures c.in-At.j (c.in-At.ensures tt)
+at_crossing-at-requires c = at c.requires c.level.result c.steps-power.result c.level.ensures c.steps-power.ensures c.in-At.j c.in-At.ensures
 
 pub excess-first-requires : goal.excess-first-requires
 excess-first-requires c =
@@ -106,15 +105,15 @@ excess-first-requires c =
 
 pub returns-in-At : goal.returns-in-At
 returns-in-At c =
-    answered_at c.requires c.level.result c.steps-power.result c.level.ensures c.steps-power.ensures c.in-At.j (c.in-At.ensures tt) c.over-level.result c.at_crossing-at.result
+    answered_at c.requires c.level.result c.steps-power.result c.level.ensures c.steps-power.ensures c.in-At.j c.in-At.ensures c.over-level.result c.at_crossing-at.result
     c.minus.result c.minus-in-At.result c.over-level.ensures c.at_crossing-at.ensures c.minus.ensures c.minus-in-At.ensures
 
 pub returns-then-below_zero : goal.returns-then-below_zero
 returns-then-below_zero c =
-    answered_none c.requires c.level.result c.steps-power.result c.level.ensures c.steps-power.ensures (c.in-Nowhere.ensures tt) c.excess-first.result c.excess-first.ensures true
+    answered_none c.requires c.level.result c.steps-power.result c.level.ensures c.steps-power.ensures c.in-Nowhere.ensures c.excess-first.result c.excess-first.ensures true
     (sym c.below_zero.ensures ∙ c.if-below_zero.true)
 
 pub returns-else-below_zero : goal.returns-else-below_zero
 returns-else-below_zero c =
-    answered_none c.requires c.level.result c.steps-power.result c.level.ensures c.steps-power.ensures (c.in-Nowhere.ensures tt) c.excess-first.result c.excess-first.ensures false
+    answered_none c.requires c.level.result c.steps-power.result c.level.ensures c.steps-power.ensures c.in-Nowhere.ensures c.excess-first.result c.excess-first.ensures false
     (sym c.below_zero.ensures ∙ c.if-below_zero.false)

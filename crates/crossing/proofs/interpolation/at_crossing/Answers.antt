@@ -1,5 +1,5 @@
 -- Where the difference is 0 the level is A_j; else it lies between A_(j−1) and A_j.
-use Rattle.std.proofs.Common.{◌≡◌, true, false, ℕ, ◌-◌, ◌≤◌, List, ℤ, pos, ◌-ℤ◌, sym, ap, ap₂, ◌∙◌, le_trans, arith}
+use Rattle.std.proofs.Common.{◌≡◌, true, false, ℕ, ◌-◌, List, ℤ, pos, ◌-ℤ◌, sym, ap, ap₂, ◌∙◌, le_trans, arith}
 use lib.Signed.{lt_z}
 use Rattle.level.specs.Types.{activity}
 use Rattle.level.specs.declared.Samples.{Samples}
@@ -9,7 +9,7 @@ use Rattle.thresholds.specs.Lists.{threshold_of}
 use Rattle.crossing.specs.Crossing.{is_zero, lower_of, active_level}
 use Rattle.crossing.specs.Inner.Interpolation.{AtCrossing, Around, IsActive, IsBetween}
 use Rattle.crossing.specs.Inner.Steps.{OverCount, Placed, IsLevel, IsExcess}
-use Rattle.crossing.specs.Levels.{active_at, excess}
+use Rattle.crossing.specs.Levels.{excess}
 use Rattle.crossing.proofs.Bounds.{Turned, alive, turned, rises}
 use Rattle.crossing.proofs.Sizes.{falls, few, level_read, excess_read}
 use Rattle.crossing.proofs.interpolation.at_crossing.Goals as goal

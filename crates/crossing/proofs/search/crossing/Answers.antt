@@ -1,7 +1,6 @@
 -- Each turn of the loop is one of the ways past a place, or a crossing found.
 use Rattle.std.proofs.Common.{◌≡◌, ◌&&◌, Bool, ◌-◌, ℤ, pos, ap, ◌∙◌, subst, sym, arith}
 use lib.Signed.{lt_z}
-use Rattle.crossing.specs.Crossing.{is_zero}
 use Rattle.crossing.specs.Inner.Search.{place_of}
 use Rattle.crossing.proofs.Downwards.{Inv, begins, ends, turn_empty, turn, at_zero, at_turn}
 use Rattle.crossing.proofs.Sizes.{excess_read}

@@ -19,7 +19,14 @@ returns c =
     record {
       is = c.minus-2.ensures ∙ ap (λ (z : ℤ). z -ℤ M) (c.minus.ensures ∙ ap₂ ◌-ℤ◌ c.over.ensures.is c.of_threshold.ensures.is);
       size =
-          omega
-          (arith, ap nat_abs c.minus-2.ensures, abs_minus c.minus.result.0 M, ap nat_abs c.minus.ensures, abs_minus c.over.result.0 c.of_threshold.result.0, c.over.ensures.size,
-          c.of_threshold.ensures.size, c.requires.margin);
+          omega (
+            arith,
+            ap nat_abs c.minus-2.ensures,
+            abs_minus c.minus.result.0 M,
+            ap nat_abs c.minus.ensures,
+            abs_minus c.over.result.0 c.of_threshold.result.0,
+            c.over.ensures.size,
+            c.of_threshold.ensures.size,
+            c.requires.margin,
+          );
     }

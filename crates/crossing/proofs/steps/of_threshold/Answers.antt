@@ -1,12 +1,11 @@
 -- A threshold has a level, which is small, and so are its double and the difference.
-use Rattle.std.proofs.Common.{◌≡◌, ℕ, ◌+◌, ◌*◌, ◌≤◌, ◌<◌, ◌^◌, ℤ, pos, nat_abs, ◌+ℤ◌, ◌-ℤ◌, ap, ap₂, ◌∙◌, arith}
+use Rattle.std.proofs.Common.{◌≡◌, ℕ, ◌*◌, ◌≤◌, ◌<◌, ◌^◌, ℤ, pos, nat_abs, ◌+ℤ◌, ◌-ℤ◌, ap, ap₂, ◌∙◌, arith}
 use Rattle.signed.proofs.Sizes.{abs_minus}
 use Rattle.level.specs.Logarithm.{lev, level_of, value_of, steps_in}
-use Rattle.level.specs.Types.{steps_of, units_of}
+use Rattle.level.specs.Types.{units_of}
 use Rattle.level.specs.declared.Level.{Level}
-use Rattle.level.specs.declared.Steps.{Steps}
 use Rattle.level.specs.declared.Units.{Units}
-use Rattle.crossing.specs.Levels.{interval_steps, level_of_threshold}
+use Rattle.crossing.specs.Levels.{level_of_threshold}
 use Rattle.crossing.proofs.Sizes.{held, level_is, lev_word}
 use Rattle.crossing.proofs.steps.of_threshold.Goals as goal
 
