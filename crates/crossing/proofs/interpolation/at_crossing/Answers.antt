@@ -11,7 +11,7 @@ use Rattle.crossing.specs.Inner.Interpolation.{AtCrossing, Around, IsActive, IsB
 use Rattle.crossing.specs.Inner.Steps.{OverCount, Placed, IsLevel, IsExcess}
 use Rattle.crossing.specs.Levels.{excess}
 use Rattle.crossing.proofs.Bounds.{Turned, alive, turned, rises}
-use Rattle.crossing.proofs.Sizes.{falls, few, level_read, excess_read}
+use Rattle.crossing.proofs.Sizes.{falls, few, active_read, excess_read}
 use Rattle.crossing.proofs.interpolation.at_crossing.Goals as goal
 
 module _ (M S : ℤ) (t : Thresholds) (a : List Samples) (j : ℕ) (p : AtCrossing M S t a j) where
@@ -28,7 +28,7 @@ module _ (M S : ℤ) (t : Thresholds) (a : List Samples) (j : ℕ) (p : AtCrossi
   unfolding lower_of active_level
   at_j upper after u e z =
       let w : is_zero (excess M S t a j) ≡ true = ap is_zero (sym (excess_read M S t a j after e)) ∙ z in
-      record { level = record { is = simp w (level_read S a j upper u); size = omega (arith, u.size) }; lower = simp w }
+      record { level = record { is = simp w (active_read S a j upper u); size = omega (arith, u.size) }; lower = simp w }
 
   -- at j − 1, where d_j was read and is not 0
   module _ (after : Steps) (e : IsExcess M S (activity a j) (threshold_of t j) after.0) (z : is_zero after.0 ≡ false) where
@@ -50,7 +50,7 @@ module _ (M S : ℤ) (t : Thresholds) (a : List Samples) (j : ℕ) (p : AtCrossi
         record {
           first = l.size;
           second = u.size;
-          rises = ap₂ (λ (x y : ℤ). lt_z (x -ℤ y) (pos 0)) (level_read S a j upper u) (level_read S a (j - 1) lower l) ∙ rises M S t a j turns;
+          rises = ap₂ (λ (x y : ℤ). lt_z (x -ℤ y) (pos 0)) (active_read S a j upper u) (active_read S a (j - 1) lower l) ∙ rises M S t a j turns;
           before = b.size;
           after = e.size;
           above = ap (lt_z (pos 0)) (excess_read M S t a (j - 1) before b) ∙ turns.above;
@@ -65,7 +65,7 @@ module _ (M S : ℤ) (t : Thresholds) (a : List Samples) (j : ℕ) (p : AtCrossi
         let w : is_zero (excess M S t a j) ≡ false = ap is_zero (sym after_is) ∙ z in
         record {
           level = record {
-            is = simp w (k.is ∙ cc (level_read S a (j - 1) lower l, level_read S a j upper u, excess_read M S t a (j - 1) before b, after_is));
+            is = simp w (k.is ∙ cc (active_read S a (j - 1) lower l, active_read S a j upper u, excess_read M S t a (j - 1) before b, after_is));
             size = k.size;
           };
           lower = simp w;
