@@ -1,7 +1,7 @@
 -- Two's complement of a word, and the samples of a part one after another.
 use mathlib.Core.Bool.{cond}
 use mathlib.Core.List.{List, [], ◌∷◌, ◌++◌}
-use mathlib.Core.Path.{◌≡◌, sym, ap, ◌∙◌}
+use mathlib.Core.Path.{◌≡◌, sym, ap, ap₂, ◌∙◌, subst}
 use Prim.Native.Nat.{ℕ, zero, suc, ◌+◌, ◌-◌, ◌*◌, ◌^◌, ◌≤◌, ◌<◌}
 use native.Mathlib.Omega.{arith}
 use native.Mathlib.Nat.{add-zero, zero-add}
@@ -10,18 +10,19 @@ use borrow.Author.Tests.{lt-ltb, le-ltb}
 use lib.IntN.{ℤ, pos, negsuc, neg_ℤ, ◌-ℤ◌}
 use lib.ListN.{length, drop, get_or, set}
 use lib.Seq.{drop-cons, append_snoc, set_at}
-use mir.Syntax.{w64}
-use mir.Val.{to_z}
-use mir.Facts.{to_z_pos}
+use mir.Syntax.{w16, w64}
+use mir.Val.{SFits, to_z, of_z}
+use mir.Facts.{to_z_pos, to_z-of_z, sfits_widen}
 use Rattle.coding.specs.Numbers.{number_at}
 use Rattle.coding.specs.Samples.{signed, samples_at}
-use Rattle.coding.proofs.Laws.{samples_at_length}
+use Rattle.coding.proofs.Laws.{samples_at_length, signed_fits}
+use Rattle.coding.proofs.Numbers.{two_bytes}
 
-pub upper : (w : ℕ) → w < 32768 → pos w ≡ signed w
+upper : (w : ℕ) → w < 32768 → pos w ≡ signed w
 unfolding signed
 upper w h = sym (ap (λ b. cond b (pos w) (neg_ℤ (pos (2 ^ 16 - w)))) (lt-ltb w (2 ^ 15) h))
 
-pub lower : (w : ℕ) → 32768 ≤ w → w < 2 ^ 16 → to_z w64 w -ℤ pos 65536 ≡ signed w
+lower : (w : ℕ) → 32768 ≤ w → w < 2 ^ 16 → to_z w64 w -ℤ pos 65536 ≡ signed w
 unfolding signed
 lower w h l =
     let past : 2 ^ 16 - w ≡ suc (65535 - w) = omega arith in
@@ -31,6 +32,23 @@ lower w h l =
     ∙ ap negsuc rest
     ∙ sym (ap (λ (n : ℕ). neg_ℤ (pos n)) past)
     ∙ sym (ap (λ b. cond b (pos w) (neg_ℤ (pos (2 ^ 16 - w)))) (le-ltb w (2 ^ 15) h))
+
+-- the sample of two bytes, as it is worked out: below 2^15, and from there on, where the word less 2^16 fits both casts
+pub upper_sample : (low high : ℕ) (b : List ℕ) (at : ℕ)
+    → low ≡ get_or b at 0 → high ≡ get_or b (at + 1) 0 → low + 256 * high < 32768 → to_z w16 (low + 256 * high) ≡ signed (number_at b at 2)
+upper_sample low high b at e f h =
+    to_z_pos w16 h ∙ upper (low + 256 * high) h ∙ ap signed (ap₂ (λ (x y : ℕ). x + 256 * y) e f ∙ two_bytes b at)
+
+casts : (w : ℕ) (x : ℤ) → x ≡ signed w → to_z w16 (of_z w16 (to_z w64 (of_z w64 x))) ≡ signed w
+casts w x e =
+    let fits : SFits w16 x = subst (SFits w16) (sym e) (signed_fits w) in
+    ap (λ (z : ℤ). to_z w16 (of_z w16 z)) (to_z-of_z {w = w64} (sfits_widen {w = w16} {w' = w64} tt fits)) ∙ to_z-of_z {w = w16} fits ∙ e
+
+pub lower_sample : (low high : ℕ) (b : List ℕ) (at : ℕ)
+    → low ≡ get_or b at 0 → high ≡ get_or b (at + 1) 0 → low < 256 → high < 256 → 32768 ≤ low + 256 * high
+    → to_z w16 (of_z w16 (to_z w64 (of_z w64 (to_z w64 (low + 256 * high) -ℤ pos 65536)))) ≡ signed (number_at b at 2)
+lower_sample low high b at e f l m h =
+    casts (low + 256 * high) _ (lower (low + 256 * high) h (omega arith)) ∙ ap signed (ap₂ (λ (x y : ℕ). x + 256 * y) e f ∙ two_bytes b at)
 
 -- one sample more
 last : (b : List ℕ) (at k : ℕ) → samples_at b at (suc k) ≡ samples_at b at k ++ (signed (number_at b (at + 2 * k) 2) ∷ [])

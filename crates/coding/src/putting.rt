@@ -52,6 +52,7 @@ pub fn put_zeros(buffer: &mut [u8], at: usize, end: usize)
 }
 
 // The word of a sample: two's complement.
+#[tactic(auto, using(crate::proofs::Bytes::below_word, crate::proofs::Bytes::above_word, crate::proofs::Bytes::size_small))]
 fn word(x: i16) -> u64
     ensures { result ≡ word_of x }
 {

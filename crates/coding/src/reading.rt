@@ -3,6 +3,7 @@ ghost use Rattle.std.specs.Prelude.{◌≡◌, ◌<◌, ◌^◌, drop};
 ghost use Rattle.coding.specs.Numbers.{number_at};
 
 // The byte at a place.
+#[tactic(auto, unfolding(crate::specs::Numbers::number_at))]
 pub fn one_byte(bytes: &[u8], at: usize) -> u8
     ensures { result ≡ number_at bytes.now at 1 }
 {
@@ -13,6 +14,7 @@ pub fn one_byte(bytes: &[u8], at: usize) -> u8
 }
 
 // The number of two bytes at a place.
+#[tactic(auto, using(crate::proofs::Numbers::from_place))]
 pub fn two_bytes(bytes: &[u8], at: usize) -> u16
     ensures { result ≡ number_at bytes.now at 2 }
 {
@@ -20,6 +22,7 @@ pub fn two_bytes(bytes: &[u8], at: usize) -> u16
 }
 
 // The number of eight bytes at a place.
+#[tactic(auto, using(crate::proofs::Numbers::eight_bytes, crate::proofs::Numbers::from_place))]
 pub fn eight_bytes(bytes: &[u8], at: usize) -> u64
     ensures { result ≡ number_at bytes.now at 8 }
 {
@@ -29,6 +32,7 @@ pub fn eight_bytes(bytes: &[u8], at: usize) -> u64
     low + 4294967296 * high
 }
 
+#[tactic(auto, using(crate::proofs::Numbers::four_bytes))]
 fn four(bytes: &[u8], at: usize) -> u64
     requires { at < 2 ^ 32 }
     ensures { (result ≡ number_at bytes.now at 4) × (result < 2 ^ 32) }
@@ -38,6 +42,7 @@ fn four(bytes: &[u8], at: usize) -> u64
     low + 65536 * high
 }
 
+#[tactic(auto, unfolding(crate::specs::Numbers::number_at))]
 fn two(bytes: &[u8], at: usize) -> u64
     requires { at < 2 ^ 33 }
     ensures { (result ≡ number_at bytes.now at 2) × (result < 2 ^ 16) }

@@ -26,6 +26,7 @@ pub fn least(a: usize, b: usize) -> usize
 
 // The sample at a place: two bytes, two's complement. They are read without a test for the end, which
 // `decode` has made for all.
+#[tactic(auto, using(crate::proofs::Decoding::upper_sample, crate::proofs::Decoding::lower_sample))]
 fn sample(bytes: &[u8], at: usize) -> i16
     requires { at + 1 < length bytes.now }
     ensures { result ≡ signed (number_at bytes.now at 2) }

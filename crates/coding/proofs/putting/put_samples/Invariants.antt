@@ -1,0 +1,12 @@
+-- The invariant: the samples that are left, put down from the place that is reached on, make all of them.
+use Rattle.std.proofs.Common.{◌-◌, ◌≡◌, length, drop}
+use Rattle.std.proofs.lemmas.List.Edits.{sets}
+use Rattle.coding.specs.Samples.{bytes_of_samples}
+use Rattle.coding.proofs.putting.put_samples.Given as goal
+
+abbrev pub invariant-loop-j : goal.invariant-loop-j
+invariant-loop-j l =
+    sets l.buffer l.place (bytes_of_samples (drop l.j l.samples)) ≡ sets l.fn.buffer l.at (bytes_of_samples l.samples)
+
+abbrev pub decreases-loop-j : goal.decreases-loop-j
+decreases-loop-j l = length l.samples - l.j
