@@ -4,6 +4,7 @@ ghost use Rattle.coding.specs.Numbers.{number_at};
 ghost use Rattle.block.specs.Block.{kind as kindIn};
 ghost use Rattle.block.specs.Refusals.{zeros};
 
+#[tactic(auto, using(crate::proofs::Numbers::kind_is))]
 pub fn kind(block: &[u8]) -> u8
     requires { length block.now ≡ 512 }
     ensures { result ≡ kindIn block.now }
@@ -12,6 +13,7 @@ pub fn kind(block: &[u8]) -> u8
 }
 
 // The two-byte number at a place.
+#[tactic(auto, using(coding::proofs::Numbers::two_bytes))]
 pub fn word(block: &[u8], at: usize) -> usize
     requires { at + 1 < length block.now }
     ensures { (result ≡ number_at block.now at 2) × (result < 2 ^ 16) }

@@ -18,6 +18,7 @@ use refusal::{Answer, Refusal};
 pub use writing::write;
 
 // The rate code of a block.
+#[tactic(auto, unfolding(crate::specs::Block::rate_code))]
 pub fn rate_code(bytes: &[u8]) -> u32
     ensures { result ≡ rate_code bytes.now }
 {
@@ -25,6 +26,7 @@ pub fn rate_code(bytes: &[u8]) -> u32
 }
 
 // The number of samples before a block.
+#[tactic(auto, unfolding(crate::specs::Block::before))]
 pub fn before(bytes: &[u8]) -> u64
     ensures { result ≡ beforeIn bytes.now }
 {
@@ -98,8 +100,7 @@ fn refused_count(block: &[u8]) -> Answer
 
 // The check for the line host, which is written in C. include/hoggetwhirl.h describes this call and
 // the next.
-#[unsafe(no_mangle)]
-pub extern "C" fn hoggetwhirl_check_block(block: &[u8], code: u32) -> u32
+pub fn hoggetwhirl_check_block(block: &[u8], code: u32) -> u32
     ensures { result ≡ host_check block.now code }
 {
     if !rate::is_named(code) {
@@ -109,8 +110,7 @@ pub extern "C" fn hoggetwhirl_check_block(block: &[u8], code: u32) -> u32
 }
 
 // Making a block, for a host in C.
-#[unsafe(no_mangle)]
-pub extern "C" fn hoggetwhirl_write_block(
+pub fn hoggetwhirl_write_block(
     code: u32,
     before: u64,
     samples: &[i16],

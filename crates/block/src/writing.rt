@@ -29,6 +29,7 @@ pub fn write(code: u32, before: u64, samples: &[i16], buffer: &mut [u8]) -> Answ
 
 // Whether so many samples behind so many others make no block. The end is not added up, since the
 // sum could pass 2^64.
+#[tactic(auto, using(crate::proofs::Conditions::none_writable, crate::proofs::Conditions::many_writable, crate::proofs::Conditions::end_writable))]
 fn unwritable(before: u64, count: usize) -> bool
     ensures { result ≡ unwritableIn before count }
 {
