@@ -18,7 +18,7 @@ use refusal::{Answer, Refusal};
 pub use writing::write;
 
 // The rate code of a block.
-#[tactic(auto, unfolding(crate::specs::Block::rate_code))]
+#[tactic(auto, using(crate::proofs::Numbers::rate_code_is))]
 pub fn rate_code(bytes: &[u8]) -> u32
     ensures { result ≡ rate_code bytes.now }
 {
@@ -26,7 +26,7 @@ pub fn rate_code(bytes: &[u8]) -> u32
 }
 
 // The number of samples before a block.
-#[tactic(auto, unfolding(crate::specs::Block::before))]
+#[tactic(auto, using(crate::proofs::Numbers::before_is))]
 pub fn before(bytes: &[u8]) -> u64
     ensures { result ≡ beforeIn bytes.now }
 {
@@ -99,7 +99,7 @@ fn refused_count(block: &[u8]) -> Answer
 }
 
 // The check for the line host, which is written in C. include/hoggetwhirl.h describes this call and
-// the next.
+// the next, and `block_c` exports both.
 pub fn hoggetwhirl_check_block(block: &[u8], code: u32) -> u32
     ensures { result ≡ host_check block.now code }
 {
@@ -110,12 +110,7 @@ pub fn hoggetwhirl_check_block(block: &[u8], code: u32) -> u32
 }
 
 // Making a block, for a host in C.
-pub fn hoggetwhirl_write_block(
-    code: u32,
-    before: u64,
-    samples: &[i16],
-    buffer: &mut [u8],
-) -> u32
+pub fn hoggetwhirl_write_block(code: u32, before: u64, samples: &[i16], buffer: &mut [u8]) -> u32
     ensures { told_with result buffer.new ≡ write_call code before samples.now buffer.old }
 {
     let answer = write(code, before, samples, buffer);

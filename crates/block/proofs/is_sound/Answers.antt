@@ -1,7 +1,6 @@
 -- Each answer is the definition's, by the laws of soundness.
 use Rattle.std.proofs.Common.{sym, ap, ◌∙◌}
 use Rattle.rate.specs.Rates.{is_named}
-use Rattle.refusal.specs.Number.{number_given}
 use Rattle.refusal.proofs.Laws.{positive}
 use Rattle.block.proofs.Laws.{unsound_length, unsound_rate, accepted_sound, refused_unsound}
 use Rattle.block.proofs.is_sound.Goals as goal

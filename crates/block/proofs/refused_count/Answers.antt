@@ -1,5 +1,5 @@
 -- The count first, then the bytes behind the samples.
-use Rattle.std.proofs.Common.{◌≡◌, ◌+◌, ◌*◌, ℕ, ap, ◌∙◌, arith}
+use Rattle.std.proofs.Common.{◌+◌, ◌*◌, ℕ, ap, ◌∙◌, arith}
 use Rattle.refusal.proofs.Laws.{here, past, none}
 use Rattle.block.proofs.Conditions.{applies, passes, count_low, count_high, count_right, unused_is}
 use Rattle.block.proofs.Numbers.{count_is}

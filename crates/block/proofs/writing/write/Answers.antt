@@ -1,5 +1,5 @@
 -- Each answer is given at the first test that fails; past them all the buffer is filled.
-use Rattle.std.proofs.Common.{not, sym, ap, ◌∙◌, arith}
+use Rattle.std.proofs.Common.{not, sym, ap, arith}
 use Rattle.refusal.proofs.Laws.{here, past, none}
 use Rattle.block.specs.Written.{write_rules}
 use Rattle.block.proofs.Conditions.{length_off, length_right, writable_facts}
