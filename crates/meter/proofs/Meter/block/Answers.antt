@@ -40,6 +40,6 @@ pub returns-in-Nothing : goal.returns-in-Nothing
 unfolding block_call block_call_rules
 returns-in-Nothing c =
     let s = c.args in
-    c.refused.ensures
+    c.refused-in-Nothing.ensures
     ∙ refusal 2 (block_call_rules s.self s.bytes.now) _ _ (omega arith)
     (here 2 (impossible s.self) _ (unusable_as s.self _ c.rate.ensures c.in-Nothing.is))

@@ -34,6 +34,6 @@ pub returns-in-Nothing : goal.returns-in-Nothing
 unfolding chunk_call chunk_rules
 returns-in-Nothing c =
     let s = c.args in
-    c.refused.ensures
+    c.refused-in-Nothing.ensures
     ∙ refusal 2 (chunk_rules s.self s.xs.now) _ _ (omega arith)
     (here 2 (impossible s.self) _ (unusable_as s.self _ c.rate.ensures c.in-Nothing.is))

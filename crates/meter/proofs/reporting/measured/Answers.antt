@@ -6,16 +6,17 @@ use Prim.Native.Nat.{ℕ}
 use native.Mathlib.Nat.{pos_of_ne-zero}
 use native.Mathlib.Omega.{arith}
 use lib.Dec.{eqb}
-use Rattle.level.specs.Types.{two_words}
+use Rattle.level.specs.Types.{activity, two_words}
 use Rattle.thresholds.proofs.Laws.{loaded, rising}
 use Rattle.crossing.specs.declared.Found.{Found}
 use Rattle.crossing.specs.declared.Found.TheVariants.{At, Below, Above}
 use Rattle.crossing.specs.Inner.FindLevels.{Measured}
-use Rattle.crossing.specs.Searched.{said}
+use Rattle.crossing.specs.Searched.{said, searched}
 use Rattle.meter.specs.declared.Meter.{Meter}
 use Rattle.meter.specs.Reports.{margin_of, list_of, no_samples, no_signal, no_activity}
 use Rattle.meter.specs.Calls.{report_call}
 use Rattle.meter.proofs.Finding.{handed_for, by_found}
+use Rattle.meter.specs.Refusals.{impossible}
 use Rattle.meter.proofs.Range.{margin_range}
 use Rattle.meter.proofs.Outcome.{Tested, at_12, at_13, at_14}
 use Rattle.meter.proofs.Possible.{possible}
@@ -59,23 +60,50 @@ returns-then-count-eq0 c =
 
 pub returns-then-is_zero : goal.returns-then-is_zero
 unfolding no_signal
-returns-then-is_zero c = ?
+returns-then-is_zero c =
+    let m = c.args.meter in
+    c.unreported-then-is_zero.ensures
+    ∙ at_13 m c.requires (n_test false m _ c.count.ensures (ne_eqb _ 0 c.if-count-eq0.false)) (sym c.is_zero.ensures ∙ c.if-is_zero.true)
 
 pub returns-then-count-eq0-2 : goal.returns-then-count-eq0-2
 unfolding no_signal
-returns-then-count-eq0-2 c = ?
+returns-then-count-eq0-2 c =
+    let m = c.args.meter in
+    c.unreported-then-count-eq0-2.ensures
+    ∙ at_14 m c.requires (n_test false m _ c.count.ensures (ne_eqb _ 0 c.if-count-eq0.false)) (sym c.is_zero.ensures ∙ c.if-is_zero.false)
+    (a_test true m _ c.count-2.ensures (eq-eqb _ 0 c.if-count-eq0-2.true))
 
 pub find_levels-requires : goal.find_levels-requires
-find_levels-requires c = ?
+unfolding no_signal
+find_levels-requires c =
+    measured c.args.meter
+    (tested _ _ _ _ c.requires c.count.ensures c.if-count-eq0.false c.is_zero.ensures c.if-is_zero.false c.count-2.ensures c.if-count-eq0-2.false)
+
+-- what was found, at the margin, is what the report call hands back
+handed : (m : Meter) → Tested m → (r f : Found) → said r ≡ searched (margin_of m) m.state.sums.n.0 (two_words m.state.sums.sq) (list_of m) m.state.a → r ≡ f
+    → handed_for (said f) m ≡ report_call m
+handed m t r f s e = by_found m t f (ap said (sym e) ∙ s)
 
 pub returns-in-At : goal.returns-in-At
-unfolding said
-returns-in-At c = ?
+unfolding said no_signal
+returns-in-At c =
+    c.reported.ensures
+    ∙ handed c.args.meter
+    (tested _ _ _ _ c.requires c.count.ensures c.if-count-eq0.false c.is_zero.ensures c.if-is_zero.false c.count-2.ensures c.if-count-eq0-2.false)
+    _ (At _) c.find_levels.ensures c.in-At.is
 
 pub returns-in-Below : goal.returns-in-Below
-unfolding said
-returns-in-Below c = ?
+unfolding said no_signal
+returns-in-Below c =
+    c.unreported-in-Below.ensures
+    ∙ handed c.args.meter
+    (tested _ _ _ _ c.requires c.count.ensures c.if-count-eq0.false c.is_zero.ensures c.if-is_zero.false c.count-2.ensures c.if-count-eq0-2.false)
+    _ Below c.find_levels.ensures c.in-Below.is
 
 pub returns-in-Above : goal.returns-in-Above
-unfolding said
-returns-in-Above c = ?
+unfolding said no_signal
+returns-in-Above c =
+    c.unreported-in-Above.ensures
+    ∙ handed c.args.meter
+    (tested _ _ _ _ c.requires c.count.ensures c.if-count-eq0.false c.is_zero.ensures c.if-is_zero.false c.count-2.ensures c.if-count-eq0-2.false)
+    _ Above c.find_levels.ensures c.in-Above.is
