@@ -2,10 +2,10 @@
 // told apart.
 ghost use Rattle.std.specs.Prelude.{◌≡◌, ◌-◌, ◌≤◌, length};
 
-use libc::STDIN_FILENO;
+use std::io::Read;
 
 // What a further read can bring: more; nothing, since the input has ended; or nothing, since a read
-// failed with an error of the system's.
+// failed with an error of the system's, by its number.
 #[derive(Clone, Copy)]
 pub enum Coming {
     More,
@@ -66,22 +66,22 @@ impl Source {
 
     // How many bytes of the input were used.
     pub fn place(self) -> u64 {
-        std::num::wrapping_sub_u64(self.read, self.unused() as u64)
+        self.read.wrapping_sub(self.unused() as u64)
     }
 
     // The source once so many bytes are read and not yet used, or all that come, or all that the buffer
     // holds. They are moved to the buffer's front.
-    pub fn gathered(self, buffer: &mut [u8], n: usize) -> Source {
+    pub fn gathered<R: Read>(self, from: &mut R, buffer: &mut [u8], n: usize) -> Source {
         let coming = self.coming;
         match coming {
             Coming::More => {
                 let held = moved(buffer, self.at, self.unused());
-                let got = received(buffer, held, n);
+                let got = received(from, buffer, held, n);
                 let coming = got.coming;
                 Source {
                     at: 0,
                     end: got.end,
-                    read: std::num::wrapping_add_u64(self.read, (got.end - held) as u64),
+                    read: self.read.wrapping_add((got.end - held) as u64),
                     coming,
                 }
             }
@@ -134,7 +134,7 @@ fn failed(end: usize, error: i32) -> Got
 const TRIES: usize = 100;
 
 // Reads behind what a buffer holds until it holds enough, or is full, or no more comes.
-fn received(buffer: &mut [u8], held: usize, enough: usize) -> Got
+fn received<R: Read>(from: &mut R, buffer: &mut [u8], held: usize, enough: usize) -> Got
     ensures { held ≤ result.end }
 {
     let mut end = held;
@@ -146,25 +146,25 @@ fn received(buffer: &mut [u8], held: usize, enough: usize) -> Got
                 coming: Coming::More,
             };
         }
-        let answer = libc::read(STDIN_FILENO, &mut buffer[end..]);
-        let count = io::count(answer, &buffer[end..]);
-        if count == 0 {
-            if answer == 0 {
+        match from.read(&mut buffer[end..]) {
+            Ok(0) => {
                 return Got {
                     end,
                     coming: Coming::End,
                 };
             }
-            let error = os::errno();
-            if error != libc::EINTR {
-                return failed(end, error);
+            Ok(count) => end += count,
+            Err(error) => {
+                let number = page::number(&error);
+                if number != page::EINTR {
+                    return failed(end, number);
+                }
+                if tries == TRIES {
+                    return failed(end, number);
+                }
+                tries += 1;
             }
-            if tries == TRIES {
-                return failed(end, error);
-            }
-            tries += 1;
         }
-        end += count;
     }
     Got {
         end,

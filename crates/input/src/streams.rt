@@ -2,17 +2,20 @@
 use crate::{Coming, Source, source};
 use page::{Page, Writing};
 
+// What is read comes from standard input, what is written goes to standard output.
 #[derive(Clone, Copy)]
 pub struct Streams {
     pub source: Source,
     pub page: Page,
+    rt: HostRuntime,
 }
 
 impl Streams {
-    pub fn new() -> Streams {
+    pub fn new(rt: HostRuntime) -> Streams {
         Streams {
             source: Source::new(),
             page: Page::blank(),
+            rt,
         }
     }
 
@@ -20,19 +23,22 @@ impl Streams {
     pub fn ready(self, bytes: &mut [u8], lines: &mut [u8], n: usize) -> Streams {
         let source = self.source;
         let page = self.page;
+        let rt = self.rt;
         if n <= source.unused() {
             return self;
         }
-        let written = page.written(lines);
+        let written = page.written(&rt.stdout(), lines);
         if !written.is_well() {
             return Streams {
                 source,
                 page: written,
+                rt,
             };
         }
         Streams {
-            source: source.gathered(bytes, n),
+            source: source.gathered(&mut rt.stdin(), bytes, n),
             page: written,
+            rt,
         }
     }
 
@@ -40,9 +46,11 @@ impl Streams {
     pub fn used(self, n: usize) -> Streams {
         let source = self.source;
         let page = self.page;
+        let rt = self.rt;
         Streams {
             source: source.used(n),
             page,
+            rt,
         }
     }
 
@@ -50,9 +58,11 @@ impl Streams {
     pub fn put(self, lines: &mut [u8], line: &[u8]) -> Streams {
         let source = self.source;
         let page = self.page;
+        let rt = self.rt;
         Streams {
             source,
-            page: page.put(lines, line),
+            page: page.put(&rt.stdout(), lines, line),
+            rt,
         }
     }
 
@@ -77,14 +87,21 @@ impl Streams {
     pub fn closed(self, lines: &[u8], program: &[u8]) {
         let source = self.source;
         let page = self.page;
+        let rt = self.rt;
         let coming = source.coming;
         if let Coming::Failed(error) = coming {
-            page::unread(program, source.read, error);
+            page::unread(&rt.stderr(), program, source.read, error);
         }
-        let writing = page.written(lines).writing;
+        let writing = page.written(&rt.stdout(), lines).writing;
         if let Writing::Failed(error) = writing {
-            page::unwritten(program, error);
+            page::unwritten(&rt.stderr(), program, error);
         }
+    }
+
+    // Says a line on standard error.
+    pub fn told(self, line: &[u8]) {
+        let rt = self.rt;
+        page::told(&rt.stderr(), line);
     }
 }
 

@@ -1,10 +1,12 @@
 // Text in a lent buffer, the page on which lines wait for one write, and what is said on standard error.
 #![tactic(auto)]
 
+mod errors;
 mod faults;
 mod page;
 mod text;
 
+pub use errors::{EINTR, NONE, number};
 pub use faults::{told, unread, unwritten};
 pub use page::{Page, Writing, filled};
 pub use text::{end_of_line, hexadecimal, signed, spaced, spaced_signed, unsigned, words};

@@ -3,10 +3,9 @@
 // several programs write into one pipe or one log. A longer line than a page comes in pieces: only the
 // line that shows a buffer of more than 513 bytes is put so. In `blocks` what waits are blocks, on a
 // page of its own size.
-use crate::text;
-use libc::STDOUT_FILENO;
+use crate::{errors, text};
 
-// How writing goes: well, or a write failed with an error of the system's.
+// How writing goes: well, or a write failed with an error of the system's, by its number.
 #[derive(Clone, Copy)]
 pub enum Writing {
     Well,
@@ -30,7 +29,7 @@ impl Page {
     }
 
     // The page with a line more, after a write where there is no room for it.
-    pub fn put(self, buffer: &mut [u8], line: &[u8]) -> Page {
+    pub fn put<P: Print>(self, to: &P, buffer: &mut [u8], line: &[u8]) -> Page {
         if self.used <= buffer.len() {
             if line.len() <= buffer.len() - self.used {
                 let writing = self.writing;
@@ -40,7 +39,7 @@ impl Page {
                 };
             }
         }
-        let writing = self.written(buffer).writing;
+        let writing = self.written(to, buffer).writing;
         Page {
             used: text::words(buffer, 0, line),
             writing,
@@ -48,7 +47,7 @@ impl Page {
     }
 
     // Writes all that waits. After a failure nothing is written any more.
-    pub fn written(self, buffer: &[u8]) -> Page {
+    pub fn written<P: Print>(self, to: &P, buffer: &[u8]) -> Page {
         let writing = self.writing;
         match writing {
             Writing::Failed(error) => Page {
@@ -57,7 +56,7 @@ impl Page {
             },
             Writing::Well => Page {
                 used: 0,
-                writing: sent(STDOUT_FILENO, filled(buffer, self.used)),
+                writing: sent(to, filled(buffer, self.used)),
             },
         }
     }
@@ -84,23 +83,24 @@ pub fn filled(buffer: &[u8], used: usize) -> &[u8] {
 const TRIES: usize = 100;
 
 // Writes bytes, by one write where the system takes them all at once.
-pub fn sent(fd: i32, bytes: &[u8]) -> Writing {
+pub fn sent<P: Print>(to: &P, bytes: &[u8]) -> Writing {
     let mut done = 0;
     let mut tries = 0;
     while done < bytes.len() {
-        let rest = &bytes[done..];
-        let put = io::count(libc::write(fd, rest), rest);
-        if put == 0 {
-            let error = os::errno();
-            if error != libc::EINTR {
-                return Writing::Failed(error);
+        match to.write_some(&bytes[done..]) {
+            Ok(0) => return Writing::Failed(errors::NONE),
+            Ok(put) => done += put,
+            Err(error) => {
+                let number = errors::number(&error);
+                if number != errors::EINTR {
+                    return Writing::Failed(number);
+                }
+                if tries == TRIES {
+                    return Writing::Failed(number);
+                }
+                tries += 1;
             }
-            if tries == TRIES {
-                return Writing::Failed(error);
-            }
-            tries += 1;
         }
-        done += put;
     }
     Writing::Well
 }

@@ -14,17 +14,13 @@ pub fn words(line: &mut [u8], used: usize, text: &[u8]) -> usize {
 }
 
 pub fn unsigned(line: &mut [u8], used: usize, x: u64) -> usize {
-    let mut digits = [0u8; 20];
-    let n = io::decimal(x, &mut digits);
-    words(line, used, &digits[..n])
+    let mut digits = itoa::Buffer::new();
+    words(line, used, digits.format(x).as_bytes())
 }
 
 pub fn signed(line: &mut [u8], used: usize, x: i64) -> usize {
-    if x < 0 {
-        let sign = words(line, used, b"-");
-        return unsigned(line, sign, signed::magnitude(x));
-    }
-    unsigned(line, used, signed::magnitude(x))
+    let mut digits = itoa::Buffer::new();
+    words(line, used, digits.format(x).as_bytes())
 }
 
 // After a space.
