@@ -11,10 +11,10 @@ use input::Streams;
 use meter::Meter;
 use setting::Setting;
 
-fn main() {
+fn main(rt: HostRuntime) {
     let mut bytes = [0u8; 65543];
     let mut lines = [0u8; 4096];
-    let streams = Streams::new().ready(&mut bytes, &mut lines, 65543);
+    let streams = Streams::new(rt).ready(&mut bytes, &mut lines, 65543);
     let source = streams.source;
     let mut line = [0u8; 4096];
     let used = print::meter(&mut line, 0, measured(input::ahead(&bytes, source, 65543)));

@@ -1,4 +1,6 @@
 // The words of the command line.
+use std::env::FillError;
+use std::rt::Env;
 
 // The rate code, and k: every k-th sample is taken.
 #[derive(Clone, Copy)]
@@ -13,12 +15,12 @@ pub enum Words {
     Bad,
 }
 
-pub fn read() -> Words {
-    if 3 < os::arg_count() {
+pub fn read<E: Env>(rt: &E) -> Words {
+    if input::has_word(rt, 3) {
         return Words::Bad;
     }
-    let code = word(1);
-    let k = word(2);
+    let code = word(rt, 1);
+    let k = word(rt, 2);
     if !rate::is_named(code) {
         return Words::Bad;
     }
@@ -30,13 +32,13 @@ pub fn read() -> Words {
 
 // The number that a word is: 1 where there is no such word. 0, which neither word may be, stands for one
 // that is no number or is longer than 32 bytes.
-fn word(i: usize) -> u32 {
-    if os::arg_count() <= i {
-        return 1;
-    }
+fn word<E: Env>(rt: &E, i: usize) -> u32 {
     let mut digits = [0u8; 32];
-    let length = os::arg(i, &mut digits);
-    decimal(&digits[..length])
+    match rt.arg(i, &mut digits) {
+        Ok(length) => decimal(&digits[..length]),
+        Err(FillError::NotPresent) => 1,
+        Err(FillError::TooLong) => 0,
+    }
 }
 
 // The number of some digits, from 1 to 999999999; else 0, and so where one of the bytes is no digit.

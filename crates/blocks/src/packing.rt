@@ -17,11 +17,11 @@ pub struct Packing {
 
 impl Packing {
     // Before the first sample.
-    pub fn new() -> Packing {
+    pub fn new(rt: HostRuntime) -> Packing {
         Packing {
             taking: Taking { skip: 0, count: 0 },
             before: 0,
-            streams: Streams::new(),
+            streams: Streams::new(rt),
             more: true,
         }
     }
@@ -94,12 +94,12 @@ fn made(
     match answer {
         Answer::Accepted => Packing {
             taking,
-            before: std::num::wrapping_add_u64(before, samples.len() as u64),
+            before: before.wrapping_add(samples.len() as u64),
             streams: streams.put(blocks, &block),
             more: true,
         },
         Answer::Refused(_) => {
-            page::told(b"blocks: no block may end above 2^48 samples\n");
+            streams.told(b"blocks: no block may end above 2^48 samples\n");
             Packing {
                 taking,
                 before,
@@ -117,13 +117,13 @@ pub fn closed(code: u32, all: Packing, samples: &[i16], blocks: &mut [u8]) {
     streams.closed(blocks, b"blocks");
     if source.has_ended() {
         if source.unused() != 0 {
-            odd(source.read);
+            odd(streams, source.read);
         }
     }
 }
 
 // The input has so many bytes, an odd number.
-fn odd(bytes: u64) {
+fn odd(streams: Streams, bytes: u64) {
     let mut line = [0u8; 128];
     let used = page::words(
         &mut line,
@@ -132,7 +132,7 @@ fn odd(bytes: u64) {
     );
     let used = page::spaced(&mut line, used, bytes);
     let used = page::words(&mut line, used, b" bytes the last is left out\n");
-    page::told(page::filled(&line, used));
+    streams.told(page::filled(&line, used));
 }
 
 // The streams with the last block, where samples are in hand.

@@ -8,5 +8,5 @@ mod text;
 
 pub use errors::{EINTR, NONE, number};
 pub use faults::{told, unread, unwritten};
-pub use page::{Page, Writing, filled};
+pub use page::{Page, Writing, filled, sent};
 pub use text::{end_of_line, hexadecimal, signed, spaced, spaced_signed, unsigned, words};

@@ -3,8 +3,9 @@ use crate::{Going, Run};
 use input::Streams;
 
 // A word on the command line.
-pub fn word() {
+pub fn word<P: Print>(to: &P) {
     page::told(
+        to,
         b"replay takes no words: it reads records of calls from standard input, as crates/replay/src/main.rt has them, and prints a line for each\n",
     );
 }
@@ -15,7 +16,7 @@ pub fn ended(run: Run, k: u64, lines: &mut [u8]) {
     let going = run.going;
     match going {
         Going::Unknown(kind) => {
-            unknown(k, run.place, kind);
+            unknown(streams, k, run.place, kind);
             bad(streams, k, lines).closed(lines, b"replay");
         }
         Going::Cut => cut(streams, k, run.place, lines).closed(lines, b"replay"),
@@ -30,19 +31,19 @@ fn cut(streams: Streams, k: u64, place: u64, lines: &mut [u8]) -> Streams {
         let mut line = [0u8; 128];
         let used = began(&mut line, k, place);
         let used = page::words(&mut line, used, b"the input ends inside it\n");
-        page::told(page::filled(&line, used));
+        streams.told(page::filled(&line, used));
         return bad(streams, k, lines);
     }
     streams
 }
 
-fn unknown(k: u64, place: u64, kind: u8) {
+fn unknown(streams: Streams, k: u64, place: u64, kind: u8) {
     let mut line = [0u8; 128];
     let used = began(&mut line, k, place);
     let used = page::words(&mut line, used, b"no record is of kind");
     let used = page::spaced(&mut line, used, kind as u64);
     let used = page::end_of_line(&mut line, used);
-    page::told(page::filled(&line, used));
+    streams.told(page::filled(&line, used));
 }
 
 // A record's number and where it starts.

@@ -57,22 +57,28 @@ pub struct Run {
     pub going: Going,
 }
 
-fn main() {
-    if os::arg_count() > 1 {
-        faults::word();
+fn main(rt: HostRuntime) {
+    if input::has_word(&rt, 1) {
+        faults::word(&rt.stderr());
         return;
     }
     let mut bytes = [0u8; 32768];
     let mut samples = [0i16; 4097];
     let mut line = [0u8; 2048];
     let mut lines = [0u8; 4096];
-    played(&mut bytes, &mut samples, &mut line, &mut lines);
+    played(rt, &mut bytes, &mut samples, &mut line, &mut lines);
 }
 
 // Plays all records.
-fn played(bytes: &mut [u8], samples: &mut [i16], line: &mut [u8], lines: &mut [u8]) {
+fn played(
+    rt: HostRuntime,
+    bytes: &mut [u8],
+    samples: &mut [i16],
+    line: &mut [u8],
+    lines: &mut [u8],
+) {
     let mut meter = Meter::open(Setting::usual(0)).meter;
-    let mut streams = Streams::new();
+    let mut streams = Streams::new(rt);
     let mut k: u64 = 1;
     while k < u64::MAX {
         let run = turn(meter, streams, bytes, samples, line, lines);

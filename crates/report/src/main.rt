@@ -13,16 +13,17 @@ use sample::State;
 use setting::Setting;
 use thresholds::PLACES;
 
-fn main() {
-    if os::arg_count() > 1 {
+fn main(rt: HostRuntime) {
+    if input::has_word(&rt, 1) {
         page::told(
+            &rt.stderr(),
             b"report takes no words: it reads sample blocks of 512 bytes from standard input, and prints a line for each that is refused and then those about the measurement\n",
         );
         return;
     }
     let mut bytes = [0u8; 32768];
     let mut lines = [0u8; 4096];
-    let measured = measured(&mut bytes, &mut lines);
+    let measured = measured(rt, &mut bytes, &mut lines);
     let streams = measured.streams;
     if is_whole(streams) {
         let mut line = [0u8; 1024];
@@ -44,11 +45,11 @@ struct Measurement {
 }
 
 // The measurement of every block of the input.
-fn measured(bytes: &mut [u8], lines: &mut [u8]) -> Measurement {
+fn measured(rt: HostRuntime, bytes: &mut [u8], lines: &mut [u8]) -> Measurement {
     let meter = Meter::open(Setting::usual(1)).meter;
     let mut all = Measurement {
         meter,
-        streams: Streams::new(),
+        streams: Streams::new(rt),
         more: true,
     };
     let mut k: u64 = 1;

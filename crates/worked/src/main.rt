@@ -4,18 +4,17 @@
 ghost use Rattle.std.specs.Prelude.{◌≡◌, length};
 
 use level::{MOST_SAMPLES, Samples, Squares};
-use libc::STDOUT_FILENO;
 use meter::Meter;
 use sample::{State, Sums};
 use setting::Setting;
 use thresholds::PLACES;
 
-fn main() {
+fn main(rt: HostRuntime) {
     let mut lines = [0u8; 4096];
     let used = full(&mut lines, 0);
     let used = chunks(&mut lines, used);
     let used = reports(&mut lines, used);
-    io::write_all(STDOUT_FILENO, page::filled(&lines, used));
+    page::sent(&rt.stdout(), page::filled(&lines, used));
 }
 
 // A meter that has taken 2^48 samples takes no other, but an empty chunk.
