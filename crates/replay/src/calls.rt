@@ -131,6 +131,7 @@ fn sums(record: &[u8]) -> Sums {
 }
 
 // The signed number that 64 bits stand for, two's complement.
+#[tactic(auto, unfolding(crate::specs::Signed::signed))]
 fn signed(word: u64) -> i64
     ensures { result ≡ signed_of word }
 {
