@@ -54,16 +54,16 @@ loop-at-init c =
     let some = pos_of_ne-zero c.if-xs-eq0.false in
     let e = c.numbers-a.ensures in
     let past : (j : ℕ) → s.list.count ≤ j → get_or c.numbers-a.result j 0 ≡ 0 =
-        λ j l. ap (λ (x : List ℕ). get_or x j 0) e.are ∙ number_at s.self.a j ∙ r.a_past j l
+    λ j l. ap (λ (x : List ℕ). get_or x j 0) e.are ∙ number_at s.self.a j ∙ r.a_past j l
     in
     started s.by s.self.sums _ s.xs.now some (record { k_max = r.k_max; offset_fits = record { sfits = search rules } })
     (record { sfits = search rules }) (c.step-moving.ensures ∙ ap₂ (moved _) c.begin.ensures (to_z-of_z {w = w16} (record { sfits = search rules })))
     (room_first s.self.sums _ r.sums r.room r.few)
     s.list c.numbers-a.result s.self.h _ r.list (search rules) (sym e.many) (search rules)
     (within_bound c.numbers-a.result s.list.count s.self.sums.n.0
-        (λ j l. subst (λ (x : List ℕ). get_or x j 0 ≤ s.self.sums.n.0) (sym e.are)
-            (subst (λ (x : ℕ). x ≤ s.self.sums.n.0) (sym (number_at s.self.a j)) (r.a_max j l)))
-        past)
+    (λ j l. subst (λ (x : List ℕ). get_or x j 0 ≤ s.self.sums.n.0) (sym e.are)
+    (subst (λ (x : ℕ). x ≤ s.self.sums.n.0) (sym (number_at s.self.a j)) (r.a_max j l)))
+    past)
     (within_bound s.self.h s.list.count s.by.i r.h_max r.h_past)
     past
     r.h_past
