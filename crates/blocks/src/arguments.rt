@@ -15,7 +15,7 @@ pub enum Words {
     Bad,
 }
 
-pub fn read<E: Env>(rt: &E) -> Words {
+pub fn read(rt: HostRuntime) -> Words {
     if input::has_word(rt, 3) {
         return Words::Bad;
     }
@@ -32,7 +32,7 @@ pub fn read<E: Env>(rt: &E) -> Words {
 
 // The number that a word is: 1 where there is no such word. 0, which neither word may be, stands for one
 // that is no number or is longer than 32 bytes.
-fn word<E: Env>(rt: &E, i: usize) -> u32 {
+fn word(rt: HostRuntime, i: usize) -> u32 {
     let mut digits = [0u8; 32];
     match rt.arg(i, &mut digits) {
         Ok(length) => decimal(&digits[..length]),

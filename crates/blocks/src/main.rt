@@ -18,7 +18,7 @@ use arguments::{Asked, Words};
 use packing::Packing;
 
 fn main(rt: HostRuntime) {
-    let words = arguments::read(&rt);
+    let words = arguments::read(rt);
     match words {
         Words::Good(asked) => {
             // One read has 16384 samples at most. With 247 in hand they fill 67 blocks, for which the

@@ -58,7 +58,7 @@ pub struct Run {
 }
 
 fn main(rt: HostRuntime) {
-    if input::has_word(&rt, 1) {
+    if input::has_word(rt, 1) {
         faults::word(&rt.stderr());
         return;
     }

@@ -14,7 +14,7 @@ use setting::Setting;
 use thresholds::PLACES;
 
 fn main(rt: HostRuntime) {
-    if input::has_word(&rt, 1) {
+    if input::has_word(rt, 1) {
         page::told(
             &rt.stderr(),
             b"report takes no words: it reads sample blocks of 512 bytes from standard input, and prints a line for each that is refused and then those about the measurement\n",
