@@ -45,7 +45,7 @@ returns-then-rate_code-rate c =
     let u = c.requires.usable in
     c.refused.ensures
     ∙ by_rate _ _ u.possible_one c.requires.fits
-    (ap not (ne_eqb _ _ (λ e. c.if-rate_code-rate.true (c.rate_code.ensures ∙ e ∙ sym (named_code _ _ u.rate_is)))))
+    (ap not (ne_eqb _ _ (λ e. omega (arith, c.if-rate_code-rate.true, c.rate_code.ensures, e, named_code _ _ u.rate_is))))
 
 pub returns-then-before-count : goal.returns-then-before-count
 unfolding wrong_place
@@ -53,7 +53,7 @@ returns-then-before-count c =
     let u = c.requires.usable in
     c.refused-then-before-count.ensures
     ∙ by_place _ _ u.possible_one c.requires.fits (sym c.rate_code.ensures ∙ c.if-rate_code-rate.false ∙ named_code _ _ u.rate_is)
-    (ap not (ne_eqb _ _ (λ e. c.if-before-count.true (c.before-2.ensures ∙ e ∙ sym c.count.ensures))))
+    (ap not (ne_eqb _ _ (λ e. omega (arith, c.if-before-count.true, c.before-2.ensures, e, c.count.ensures))))
 
 pub slice_bounds-feed-end : goal.slice_bounds-feed-end
 slice_bounds-feed-end c =
