@@ -1,5 +1,5 @@
 -- Each answer is the definition's, by the tests that led to it.
-use Rattle.std.proofs.Common.{◌+◌, ◌*◌, ◌^◌, ◌≤◌, sym, ap, ◌∙◌, ltb-false, ltb-true}
+use Rattle.std.proofs.Common.{sym, ap, ◌∙◌, ltb-false, ltb-true}
 use Rattle.level.specs.Logarithm.{level_of}
 use Rattle.level.proofs.Window.{none_below, none_above, level_at, words_zero, words_one, words_pos, words_low}
 use Rattle.level.proofs.lev.Goals as goal

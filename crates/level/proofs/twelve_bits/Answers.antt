@@ -1,5 +1,5 @@
 -- One turn squares m and writes one bit; the bits so far are few, since they begin a number of twelve.
-use Rattle.std.proofs.Common.{◌≡◌, ◌+◌, ◌*◌, ◌^◌, ◌<◌, ◌≤◌, true, false, leb, add-zero, arith, le-leb}
+use Rattle.std.proofs.Common.{◌≡◌, ◌*◌, ◌^◌, true, false, leb, add-zero, arith, le-leb}
 use borrow.Author.Tests.{lt-leb}
 use Rattle.level.proofs.Squarings.{square_fits, turn, turn_small, turn_end}
 use Rattle.level.proofs.twelve_bits.Goals as goal

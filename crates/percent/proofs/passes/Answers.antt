@@ -1,5 +1,5 @@
 -- Both levels are known, their difference fits, and the test of words is that of integers.
-use Rattle.std.proofs.Common.{◌≡◌, ℕ, ◌^◌, ◌<◌, ◌≤◌, sym, ap, ap₂, ◌∙◌, subst, arith, ℤ, pos, ◌-ℤ◌, SFits, to_z, of_z, w64}
+use Rattle.std.proofs.Common.{◌≡◌, ℕ, ◌^◌, ◌<◌, sym, ap, ap₂, ◌∙◌, subst, ℤ, pos, ◌-ℤ◌, to_z, of_z, w64}
 use borrow.Author.Tests.{lt-leb, le-leb}
 use lib.Signed.{mag, le_z}
 use mir.Facts.{to_z-of_z}

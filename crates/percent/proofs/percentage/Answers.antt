@@ -1,5 +1,5 @@
 -- Each turn keeps `Halving`; at the end the width is 1, and `low` is the largest, of which there is only one.
-use Rattle.std.proofs.Common.{sym, ap, ◌∙◌, ◌^◌, ◌≤◌, arith}
+use Rattle.std.proofs.Common.{sym, ap, ◌∙◌, arith}
 use Rattle.level.specs.Types.{hundredths_of}
 use Rattle.percent.specs.Inner.{passes}
 use Rattle.percent.specs.Percent.{whole}

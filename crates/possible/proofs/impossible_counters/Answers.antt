@@ -1,5 +1,5 @@
 -- The test of a counter is the definition's, with what is carried along; then comes what is past the end.
-use Rattle.std.proofs.Common.{Bool, true, false, [], ◌∷◌, ltb, ◌≡◌, refl, sym, ap, ap₂, ◌∙◌, subst, ℕ, zero, suc, ◌≤◌, min, get_or, add-one, arith}
+use Rattle.std.proofs.Common.{Bool, true, false, [], ◌∷◌, ltb, ◌≡◌, refl, sym, ap, ap₂, ◌∙◌, subst, ℕ, zero, suc, ◌≤◌, get_or, add-one, arith}
 use native.Mathlib.Nat.{min-le_right}
 use borrow.Author.Tests.{ltb-false, le-ltb}
 use lib.Dec.{T}

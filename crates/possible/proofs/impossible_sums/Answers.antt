@@ -1,5 +1,5 @@
 -- One test after another, left at the first that holds.
-use Rattle.std.proofs.Common.{Bool, false, ltb, ◌≡◌, sym, ap, ◌∙◌, subst, ℕ, ◌+◌, ◌*◌, ◌^◌, ◌≤◌, ◌<◌, nat_abs, arith, rules, to_z, of_z, w64}
+use Rattle.std.proofs.Common.{Bool, false, ltb, ◌≡◌, sym, ap, ◌∙◌, subst, ℕ, ◌*◌, ◌^◌, ◌≤◌, ◌<◌, nat_abs, arith, rules, to_z, of_z, w64}
 use borrow.Author.Tests.{lt-ltb, le-ltb}
 use lib.Signed.{mag}
 use mir.Facts.{to_z-of_z}

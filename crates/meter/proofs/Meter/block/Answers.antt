@@ -11,7 +11,6 @@ use Rattle.rate.proofs.Laws.{named_code}
 use Rattle.refusal.specs.First.{first_of}
 use Rattle.refusal.proofs.Laws.{here}
 use Rattle.meter.specs.Calls.{handed_by, block_call}
-use Rattle.meter.specs.Inner.{Usable}
 use Rattle.meter.specs.Refusals.{impossible, block_call_rules}
 use Rattle.meter.proofs.Blocks.{by_part}
 use Rattle.meter.proofs.Handing.{refusal, usable_as, unusable_as}

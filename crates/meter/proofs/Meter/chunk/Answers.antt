@@ -4,7 +4,7 @@ use mathlib.Core.Path.{◌∙◌}
 use native.Mathlib.Omega.{arith}
 use Rattle.meter.proofs.Handing.{refusal, beyond, usable_as, ready, unusable_as}
 use Rattle.meter.specs.Calls.{chunk_call}
-use Rattle.meter.specs.Inner.{Usable, taken_by}
+use Rattle.meter.specs.Inner.{taken_by}
 use Rattle.meter.specs.Refusals.{chunk_rules, impossible, long_chunk}
 use Rattle.refusal.proofs.Laws.{here, past}
 use Rattle.meter.proofs.Meter.chunk.Goals as goal

@@ -1,6 +1,5 @@
 -- A named code, a margin in range and a list that loads are accepted; of any other setting the first rule that applies decides.
-use mathlib.Core.Bool.{Bool, true, false, not}
-use mathlib.Core.List.{List, ◌∷◌}
+use mathlib.Core.Bool.{false, not}
 use mathlib.Core.Option.{some}
 use mathlib.Core.Path.{◌≡◌, refl, sym, ap, ◌∙◌}
 use Prim.Native.Nat.{ℕ}
@@ -16,7 +15,7 @@ use Rattle.thresholds.proofs.Laws.{accepted_loads, loaded}
 use Rattle.rate.proofs.Laws.{named_as, named_nothing, is_named_lem, is_not_named, row_is}
 use Rattle.rate.specs.declared.Rate.{Rate}
 use Rattle.rate.specs.Rates.{rate_of}
-use Rattle.refusal.specs.First.{Rule, first_of}
+use Rattle.refusal.specs.First.{first_of}
 use Rattle.refusal.specs.Number.{number_of, number_given}
 use Rattle.refusal.proofs.Laws.{here, past, positive}
 use Rattle.meter.proofs.Meter.open.Goals as goal

@@ -9,7 +9,7 @@ use lib.IntN.{ℤ, pos}
 use lib.ListN.{length, take, replicate}
 use Rattle.coding.specs.Samples.{samples_at, decoded_into}
 use Rattle.coding.proofs.Laws.{decoded_length, decoded_first}
-use Rattle.block.specs.Block.{rate_code, count, samples_in}
+use Rattle.block.specs.Block.{count, samples_in}
 use Rattle.block.specs.Refusals.{wrong_rate, samples_part, sound}
 use Rattle.block.proofs.Laws.{sound_count, part_length, part_reads, samples_length}
 use Rattle.rate.proofs.Laws.{named_code}

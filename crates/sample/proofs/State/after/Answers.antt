@@ -1,5 +1,5 @@
 -- The first sample leads to the first band, each run to the next one; at the end what the samples lead to from plain counts is what they lead to from the state.
-use Rattle.std.proofs.Common.{Bool, refl, List, [], ◌∷◌, map, ◌≡◌, ap, ap₂, ◌∙◌, subst, sym, ℕ, ◌^◌, ◌≤◌, ◌<◌, ℤ, pos, length, get_or, rules, arith, w16}
+use Rattle.std.proofs.Common.{Bool, refl, List, [], ◌∷◌, map, ◌≡◌, ap, ap₂, ◌∙◌, subst, sym, ℕ, ◌≤◌, ◌<◌, ℤ, length, get_or, rules, arith, w16}
 use native.Mathlib.Decide.{dec_le}
 use native.Mathlib.Nat.{pos_of_ne-zero, lt_of_not-le}
 use mir.Facts.{to_z-of_z}

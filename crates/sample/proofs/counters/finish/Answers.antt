@@ -1,5 +1,5 @@
 -- The thresholds that the envelope is at or above, and those that it is below.
-use Rattle.std.proofs.Common.{ℕ, true, false, ltb, sym, arith}
+use Rattle.std.proofs.Common.{true, false, ltb, sym, arith}
 use borrow.Author.Tests.{lt-ltb, le-ltb}
 use Rattle.sample.specs.Inner.Runs.{between}
 use Rattle.sample.proofs.Settling.{in_between, apart, twice, still_standing}

@@ -1,5 +1,5 @@
 -- The counter of a place is as it was until its turn, and after it what the closed forms say.
-use Rattle.std.proofs.Common.{ℕ, refl, arith}
+use Rattle.std.proofs.Common.{refl, arith}
 use Rattle.sample.proofs.Settling.{none_yet, untouched, one_more, same_places, by_places}
 use Rattle.sample.proofs.counters.settle.Goals as goal
 

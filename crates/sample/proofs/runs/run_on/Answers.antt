@@ -1,5 +1,5 @@
 -- What a sample leaves goes on in the band, or ends the run.
-use Rattle.std.proofs.Common.{◌≡◌, ap, ◌∙◌, arith, rules, w16}
+use Rattle.std.proofs.Common.{ap, ◌∙◌, rules, w16}
 use mir.Facts.{to_z-of_z}
 use Rattle.sample.specs.Inner.Steps.{moved}
 use Rattle.sample.proofs.Ran.{set_out, run_out, gone_out, gone_on}
