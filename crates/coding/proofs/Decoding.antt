@@ -18,11 +18,11 @@ use Rattle.coding.specs.Samples.{signed, samples_at}
 use Rattle.coding.proofs.Laws.{samples_at_length, signed_fits}
 use Rattle.coding.proofs.Numbers.{two_bytes}
 
-upper : (w : ℕ) → w < 32768 → pos w ≡ signed w
+pub upper : (w : ℕ) → w < 32768 → pos w ≡ signed w
 unfolding signed
 upper w h = sym (ap (λ b. cond b (pos w) (neg_ℤ (pos (2 ^ 16 - w)))) (lt-ltb w (2 ^ 15) h))
 
-lower : (w : ℕ) → 32768 ≤ w → w < 2 ^ 16 → to_z w64 w -ℤ pos 65536 ≡ signed w
+pub lower : (w : ℕ) → 32768 ≤ w → w < 2 ^ 16 → to_z w64 w -ℤ pos 65536 ≡ signed w
 unfolding signed
 lower w h l =
     let past : 2 ^ 16 - w ≡ suc (65535 - w) = omega arith in

@@ -1,10 +1,18 @@
--- How large levels are, from the logarithm's facts alone, and what the code reads of them.
+-- How large levels are, from the logarithm's facts alone, what the code reads of them, and sums and differences of small steps.
 use mathlib.Core.List.{List}
-use mathlib.Core.Path.{◌≡◌, refl, sym, ap, ◌∙◌, subst}
+use mathlib.Core.Path.{◌≡◌, refl, sym, ap, ap₂, ◌∙◌, subst}
 use Prim.Native.Nat.{ℕ, zero, suc, ◌+◌, ◌*◌, ◌-◌, ◌^◌, ◌≤◌, ◌<◌}
 use native.Mathlib.Nat.{le_trans, le_of_eq, lt_of_le_of_lt, pow-le-pow_left, two-pow-succ}
 use native.Mathlib.Omega.{arith}
-use lib.IntN.{ℤ, pos, nat_abs}
+use borrow.Author.Tests.{ne_eqb}
+use lib.Dec.{eqb}
+use lib.IntN.{ℤ, pos, negsuc, nat_abs}
+use lib.Signed.{mag}
+use mir.Syntax.{w64}
+use mir.Val.{SFits, to_z, of_z}
+use mir.Facts.{to_z-of_z}
+use Rattle.signed.proofs.Sizes.{fits}
+use Rattle.crossing.specs.Crossing.{is_zero}
 use lib.Pow.{pow_pos}
 use Rattle.level.specs.Logarithm.{lev, level_of, value_of, steps_in}
 use Rattle.level.specs.Types.{activity, steps_of}
@@ -14,7 +22,7 @@ use Rattle.level.specs.declared.Steps.{Steps}
 use Rattle.level.proofs.Laws.{facts, level_known, level_unknown, pow_lt_cancel}
 use Rattle.level.proofs.Powers.{pow_mul}
 use Rattle.crossing.specs.Inner.FindLevels.{Falling}
-use Rattle.crossing.specs.Inner.Steps.{IsLevel, IsExcess}
+use Rattle.crossing.specs.Inner.Steps.{TwoSmall, IsLevel, IsExcess}
 use Rattle.crossing.specs.Levels.{active_at, excess}
 use Rattle.thresholds.specs.declared.Thresholds.{Thresholds}
 use Rattle.thresholds.specs.Lists.{threshold_of}
@@ -57,6 +65,28 @@ few k a f (suc j) l =
 
 pub held : {r : Steps} {x : ℤ} → r ≡ steps_of x → r.0 ≡ x
 held e = ap (λ (s : Steps). s.0) e
+
+-- the test of a word against 0
+pub zero_test : (z : ℤ) → mag z < 2 ^ 63 → eqb (of_z w64 z) 0 ≡ is_zero z
+zero_test (pos n) h = refl
+zero_test (negsuc n) h = ne_eqb (of_z w64 (negsuc n)) 0 (λ (e : of_z w64 (negsuc n) ≡ 0). omega (arith, e))
+
+-- two small steps, and a sum or a difference of them
+module _ (op : ℤ → ℤ → ℤ) (bound : (x y : ℤ) → nat_abs (op x y) ≤ nat_abs x + nat_abs y) {x y v w : ℤ} (t : TwoSmall x y) (e : v ≡ x) (f : w ≡ y) where
+  abbrev words : ℤ
+  words = op (to_z w64 (of_z w64 v)) (to_z w64 (of_z w64 w))
+
+  read : words ≡ op x y
+  read = rw (e, f) (ap₂ op (to_z-of_z (fits x (omega (arith, t.first)))) (to_z-of_z (fits y (omega (arith, t.second)))))
+
+  whole : SFits w64 (op x y)
+  whole = fits (op x y) (omega (arith, bound x y, t.first, t.second))
+
+  pub op_fits : SFits w64 words
+  op_fits = subst (SFits w64) (sym read) whole
+
+  pub op_is : {r : Steps} → r ≡ steps_of (to_z w64 (of_z w64 words)) → r.0 ≡ op x y
+  op_is h = held h ∙ ap (λ (z : ℤ). to_z w64 (of_z w64 z)) read ∙ to_z-of_z whole
 
 -- A_j and d_j, as the code reads them
 pub active_read : (S : ℤ) (a : List Samples) (j : ℕ) (x : Steps) → IsLevel S (activity a j) x.0 → x.0 ≡ active_at S a j

@@ -21,7 +21,7 @@ pub at_first : (c : Setting) → AtFirst c (exact_at c)
 unfolding start start_at k_of i_of
 at_first c = record { code = refl; K = refl; I = refl; o = refl; y = refl; p_zero = refl; q_zero = refl; u = λ t. refl; v = λ t. refl }
 
--- over W-as-G against over (W·1)·G, and over U-as-G against over (U-as-U)·G
+-- over W·G against over (W·1)·G, and over U·G against over (U·U)·G
 p_same : (n R X K W G : ℕ) → (n * R + X * W * K) * (W * 1 * G) ≡ (n * R * 1 + X * K * W) * (W * G)
 p_same n R X K W G = omega arith
 

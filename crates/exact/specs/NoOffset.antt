@@ -11,7 +11,7 @@ use Rattle.sample.specs.declared.Sums.{Sums}
 use Rattle.sample.specs.Sample.{fresh_state, counts, hangovers}
 use Rattle.meter.specs.Calls.{fresh, after_samples}
 
--- n grows by 1, s by x, sq by x times x; P becomes floor((P(2^20 − K) + |x|·2^24·K) / 2^20), then Q floor((Q(2^20 − K) + P-as-K) / 2^20) with the new P
+-- n grows by 1, s by x, sq by x times x; P becomes floor((P(2^20 − K) + |x|·2^24·K) / 2^20), then Q floor((Q(2^20 − K) + P·K) / 2^20) with the new P
 unfoldable pub raw_sums : (K : ℕ) → Sums → ℤ → Sums
 raw_sums K m x =
     let P = (m.p * (2 ^ 20 - K) + nat_abs x * 2 ^ 24 * K) / 2 ^ 20 in

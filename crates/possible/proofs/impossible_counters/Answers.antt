@@ -1,6 +1,5 @@
 -- The test of a counter is the definition's, with what is carried along; then comes what is past the end.
-use Rattle.std.proofs.Common.{Bool, true, false, [], ◌∷◌, ltb, ◌≡◌, refl, sym, ap, ap₂, ◌∙◌, subst, ℕ, zero, suc, ◌≤◌, get_or, add-one, arith}
-use native.Mathlib.Nat.{min-le_right}
+use Rattle.std.proofs.Common.{Bool, true, false, [], ◌∷◌, ltb, ◌≡◌, refl, sym, ap, ap₂, ◌∙◌, subst, ℕ, zero, suc, ◌≤◌, min, get_or, add-one, arith}
 use borrow.Author.Tests.{ltb-false, le-ltb}
 use lib.Dec.{T}
 use Rattle.level.specs.Types.{activity}
@@ -36,7 +35,7 @@ unfolding some_below count_before hangover_before
 loop-j-init c =
     record {
       below = omega arith;
-      few = subst (λ (k : ℕ). k ≤ places) (sym c.least-many.ensures) (min-le_right _ places);
+      few = omega (arith, c.least-many.ensures);
       count_is = c.count-before.ensures;
       hangover_is = refl;
       most = omega (arith, c.count-before.ensures);
@@ -62,9 +61,7 @@ returns-then-impossible_next c =
     let wrong = impossible_counter c.args.hangover c.args.state in
     let j = c.loop-j.j in
     let t = tested _ _ _ _ _ j _ _ c.loop-j.invariant c.count-a.ensures c.impossible_next.ensures in
-    stop _ _
-    (sym (ap (λ (k : ℕ). some_below k wrong) c.least-many.ensures)
-    ∙ some_below_lem wrong j _ (sym t ∙ c.if-impossible_next.true) c.loop-j-test.true)
+    stop _ _ (some_below_lem wrong j (min c.args.count places) (sym t ∙ c.if-impossible_next.true) (omega (arith, c.least-many.ensures, c.loop-j-test.true)))
 
 pub loop-j-preserved : goal.loop-j-preserved
 unfolding count_before hangover_before

@@ -6,7 +6,7 @@ use Rattle.sample.proofs.Settling.{in_between, apart, twice, still_standing}
 use Rattle.sample.proofs.counters.finish.Goals as goal
 
 pub settle-requires-2 : goal.settle-requires-2
-settle-requires-2 c = (still_standing _ _ _ _ _ _ _ _ _ _ _ c.requires.standing c.settle.ensures, c.requires.is_max)
+settle-requires-2 c = (still_standing _ _ _ _ _ _ _ _ _ _ _ c.requires.standing c.settle.ensures, omega (arith, c.requires.was_max, c.requires.is_max))
 
 pub returns : goal.returns
 returns c =

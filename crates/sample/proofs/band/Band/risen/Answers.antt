@@ -17,10 +17,10 @@ above c k q b s l = go (dec_le k b.below)
 pub up-band-requires : goal.up-band-requires
 up-band-requires c =
     let s = c.loop-band.invariant.search in
-    record { few = s.few; band = s.band; more = above _ _ _ _ s c.loop-band-test.true }
+    record { few = s.few; band = s.band; more = above _ _ _ _ s (omega (arith, c.loop-band-test.true)) }
 
 pub loop-band-smaller : goal.loop-band-smaller
-loop-band-smaller c = fall _ _ _ (above _ _ _ _ c.loop-band.invariant.search c.loop-band-test.true) c.up-band.ensures.place
+loop-band-smaller c = fall _ _ _ (above _ _ _ _ c.loop-band.invariant.search (omega (arith, c.loop-band-test.true))) c.up-band.ensures.place
   where
     fall : (k p r : ℕ) → p < k → r ≡ p + 1 → k - r < k - p
     fall k p r l e = omega arith

@@ -1,5 +1,5 @@
 -- Each field is the definition's, from what each part promises; `made` puts them together.
-use Rattle.std.proofs.Common.{◌≡◌, ℕ, ◌+◌, ◌*◌, ◌^◌, ◌≤◌, ℤ, ◌+ℤ◌, subst, sym, rules, arith, w16, w64}
+use Rattle.std.proofs.Common.{◌≡◌, ℕ, ◌+◌, ◌*◌, ◌^◌, ◌≤◌, ℤ, ◌+ℤ◌, rules, arith, w16, w64}
 use mir.Facts.{to_z-of_z}
 use Rattle.sample.specs.declared.Counting.{Counting}
 use Rattle.sample.specs.declared.step.Moving.{Moving}
@@ -15,7 +15,7 @@ smoothed-q-requires c =
     record {
       k_max = c.requires.k_max;
       old_max = p.q_max;
-      new_max = subst (λ (x : ℕ). x ≤ 2 ^ 40) (sym c.smoothed-p.ensures) (smooth_le c.args.by.k (2 ^ 40) c.args.self.p _ c.requires.k_max p.p_max small);
+      new_max = omega (arith, p.p_max, c.smoothed-p.ensures, smooth_le c.args.by.k (2 ^ 40) c.args.self.p _ c.requires.k_max p.p_max small);
     }
 
 made : (by : Counting) (m : Moving) (o x x' s s' t : ℤ) (y p q : ℕ)
