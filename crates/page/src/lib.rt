@@ -6,7 +6,7 @@ mod faults;
 mod page;
 mod text;
 
-pub use errors::{EINTR, NONE, number};
+pub use errors::{EINTR, number};
 pub use faults::{told, unread, unwritten};
 pub use page::{Page, Writing, filled, sent};
 pub use text::{end_of_line, hexadecimal, signed, spaced, spaced_signed, unsigned, words};
