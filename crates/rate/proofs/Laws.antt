@@ -1,23 +1,21 @@
 -- What the crates above know of a named rate, whichever it is: `row_keeps`, `named_code` and `named_small`. Only this file goes through the table's rows.
 use mathlib.Core.Bool.{Bool, true, false, cond}
-use mathlib.Core.Option.{Option, none, some, get_or}
-use mathlib.Core.Path.{◌≡◌, refl, sym, ap, subst, ◌∙◌}
+use Rattle.std.specs.Prelude.{Option, Some, None, is_some, unwrap_or}
+use mathlib.Core.Path.{◌≡◌, refl, sym, ap, subst}
 use Prim.Native.Nat.{ℕ, zero, suc, ◌+◌, ◌-◌, ◌*◌, ◌^◌, ◌≤◌, ◌<◌}
 use native.Mathlib.Omega.{arith}
 use native.Mathlib.Nat.{lt_of_not-le, not-le_of_lt, mul-le-mul_right, one-le-pow}
 use borrow.Author.Tests.{eqb-true, leb-true}
 use lib.Dec.{T, eqb, lit≤}
 use Rattle.rate.specs.declared.Rate.{Rate}
-use Rattle.rate.specs.declared.Named.{Named}
-use Rattle.rate.specs.declared.Named.TheVariants.{As, Nothing}
-use Rattle.rate.specs.Rates.{hz694, hz8000, hz16000, hz32000, hz48000, rate_of, is_some, is_named, zero_row, row_of, named, Ceiling, e_low, e_high, lasts_at_least, lasts_at_most, keeps_time, Keeps}
+use Rattle.rate.specs.Rates.{hz694, hz8000, hz16000, hz32000, hz48000, rate_of, is_named, zero_row, row_of, Ceiling, e_low, e_high, lasts_at_least, lasts_at_most, keeps_time, Keeps}
 
 -- P of the rate, where there is one
 Of : (Rate → Type 0) → Option Rate → Type 0
-Of P none = Unit {0}
-Of P (some r) = P r
+Of P None = Unit {0}
+Of P (Some r) = P r
 
-by_test : (P : Rate → Type 0) (b : Bool) (r : Rate) (o : Option Rate) → (b ≡ true → P r) → Of P o → Of P (cond b (some r) o)
+by_test : (P : Rate → Type 0) (b : Bool) (r : Rate) (o : Option Rate) → (b ≡ true → P r) → Of P o → Of P (cond b (Some r) o)
 unfolding Of
 by_test P true r o p q = p refl
 by_test P false r o p q = q
@@ -27,7 +25,7 @@ abbrev Rows : (ℕ → Rate → Type 0) → Type 0
 Rows P = P 1 hz694 × P 2 hz8000 × P 3 hz16000 × P 4 hz32000 × P 5 hz48000
 
 -- what holds of every row holds of the rate that a code names
-each_row : (P : ℕ → Rate → Type 0) → Rows P → (code : ℕ) (r : Rate) → rate_of code ≡ some r → P code r
+each_row : (P : ℕ → Rate → Type 0) → Rows P → (code : ℕ) (r : Rate) → rate_of code ≡ Some r → P code r
 unfolding rate_of Of
 each_row P rows code r e =
     subst (Of (P code)) e
@@ -57,20 +55,20 @@ Figures r =
     × (2 ^ 21 ≤ r.d * r.k)
     × (r.d * r.k < 2 ^ 21 + r.k)
 
-named_figures : (code : ℕ) (r : Rate) → rate_of code ≡ some r → Figures r
+named_figures : (code : ℕ) (r : Rate) → rate_of code ≡ Some r → Figures r
 named_figures = each_row (λ code r. Figures r) (omega arith)
 
--- by computation: at the last rate the numbers have some 30000 bits
-named_time : (code : ℕ) (r : Rate) → rate_of code ≡ some r → keeps_time r.hertz r.k ≡ true
+-- by computation: at the last rate the numbers have Some 30000 bits
+named_time : (code : ℕ) (r : Rate) → rate_of code ≡ Some r → keeps_time r.hertz r.k ≡ true
 unfolding lasts_at_least lasts_at_most keeps_time
 named_time = each_row (λ code r. keeps_time r.hertz r.k ≡ true) (refl, refl, refl, refl, refl)
 
-pub named_keeps : (code : ℕ) (r : Rate) → rate_of code ≡ some r → Keeps r
+pub named_keeps : (code : ℕ) (r : Rate) → rate_of code ≡ Some r → Keeps r
 named_keeps code r e =
     let f = named_figures code r e in
     record { k_low = f.0; k_high = f.1; time_rule = named_time code r e; i_rule = ceiling f.2 f.3; d_rule = ceiling f.4 f.5 }
 
-pub named_code : (code : ℕ) (r : Rate) → rate_of code ≡ some r → r.code ≡ code
+pub named_code : (code : ℕ) (r : Rate) → rate_of code ≡ Some r → r.code ≡ code
 named_code = each_row (λ code r. r.code ≡ code) (refl, refl, refl, refl, refl)
 
 -- ---- e, in the rule of the smoothing time
@@ -99,18 +97,18 @@ e_between = (lit≤ tt, lit≤ tt)
 
 -- ---- by the code alone
 
-pub row_is : (code : ℕ) (r : Rate) → rate_of code ≡ some r → row_of code ≡ r
+pub row_is : (code : ℕ) (r : Rate) → rate_of code ≡ Some r → row_of code ≡ r
 unfolding row_of
-row_is code r e = ap (λ (o : Option Rate). get_or o zero_row) e
+row_is code r e = ap (λ (o : Option Rate). unwrap_or o zero_row) e
 
 -- what holds wherever a code names a rate
-from_rate : {P : Type 0} (code : ℕ) → ((r : Rate) → rate_of code ≡ some r → P) → is_named code ≡ true → P
+from_rate : {P : Type 0} (code : ℕ) → ((r : Rate) → rate_of code ≡ Some r → P) → is_named code ≡ true → P
 unfolding is_named
 from_rate {P} code f n = go (rate_of code) refl n
   where
     go : (o : Option Rate) → rate_of code ≡ o → is_some o ≡ true → P
-    go none e h = absurd (subst T (sym h) tt)
-    go (some r) e h = f r e
+    go None e h = absurd (subst T (sym h) tt)
+    go (Some r) e h = f r e
 
 pub row_keeps : (code : ℕ) → is_named code ≡ true → Keeps (row_of code)
 row_keeps code n = from_rate code (λ r e. subst Keeps (sym (row_is code r e)) (named_keeps code r e)) n
@@ -123,20 +121,12 @@ pub zero_unnamed : is_named 0 ≡ false
 unfolding is_named rate_of
 zero_unnamed = refl
 
--- ---- what an answer tells of its code
+-- ---- whether a code names a rate
 
-pub named_as : (code : ℕ) (n : Named) (r : Rate) → named n ≡ rate_of code → n ≡ As r → rate_of code ≡ some r
-unfolding named
-named_as code n r e f = sym e ∙ ap named f
-
-pub named_nothing : (code : ℕ) (n : Named) → named n ≡ rate_of code → n ≡ Nothing → rate_of code ≡ none
-unfolding named
-named_nothing code n e f = sym e ∙ ap named f
-
-pub is_named_lem : (code : ℕ) (r : Rate) → rate_of code ≡ some r → is_named code ≡ true
+pub is_named_lem : (code : ℕ) (r : Rate) → rate_of code ≡ Some r → is_named code ≡ true
 unfolding is_named
 is_named_lem code r e = ap is_some e
 
-pub is_not_named : (code : ℕ) → rate_of code ≡ none → is_named code ≡ false
+pub is_not_named : (code : ℕ) → rate_of code ≡ None → is_named code ≡ false
 unfolding is_named
 is_not_named code e = ap is_some e

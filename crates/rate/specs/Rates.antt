@@ -1,9 +1,6 @@
 -- The named rates: METHOD.md, "Rates".
-use Rattle.std.specs.Prelude.{Bool, true, false, cond, ◌&&◌, ◌≡◌, ℕ, ◌+◌, ◌-◌, ◌*◌, ◌/◌, ◌^◌, ◌≤◌, eqb, leb}
-use Rattle.std.proofs.Math.Option.{Option, none, some, get_or}
+use Rattle.std.specs.Prelude.{Bool, true, cond, ◌&&◌, ◌≡◌, ℕ, ◌+◌, ◌-◌, ◌*◌, ◌/◌, ◌^◌, ◌≤◌, eqb, leb, Option, Some, None, is_some, unwrap_or}
 use Rattle.rate.specs.declared.Rate.{Rate}
-use Rattle.rate.specs.declared.Named.{Named}
-use Rattle.rate.specs.declared.Named.TheVariants.{As, Nothing}
 
 -- the table's rows: code, samples a second, K, I and D
 abbrev pub hz694 : Rate
@@ -21,19 +18,15 @@ hz32000 = record { code = 4; hertz = 32000; k = 1092; i = 6400; d = 1921 }
 abbrev pub hz48000 : Rate
 hz48000 = record { code = 5; hertz = 48000; k = 728; i = 9600; d = 2881 }
 
-abbrev pub is_some : Option Rate → Bool
-is_some none = false
-is_some (some r) = true
-
 -- the rate that a code names, if any
 unfoldable pub rate_of : ℕ → Option Rate
 rate_of code =
-    cond (eqb code 1) (some hz694)
-    (cond (eqb code 2) (some hz8000)
-    (cond (eqb code 3) (some hz16000)
-    (cond (eqb code 4) (some hz32000)
-    (cond (eqb code 5) (some hz48000)
-    none))))
+    cond (eqb code 1) (Some hz694)
+    (cond (eqb code 2) (Some hz8000)
+    (cond (eqb code 3) (Some hz16000)
+    (cond (eqb code 4) (Some hz32000)
+    (cond (eqb code 5) (Some hz48000)
+    None))))
 
 -- whether a code names a rate
 unfoldable pub is_named : ℕ → Bool
@@ -44,12 +37,7 @@ abbrev pub zero_row : Rate
 zero_row = record { code = 0; hertz = 0; k = 0; i = 0; d = 0 }
 
 unfoldable pub row_of : ℕ → Rate
-row_of code = get_or (rate_of code) zero_row
-
--- what each case of an answer says: a rate, or that there is none
-unfoldable pub named : Named → Option Rate
-named (As r) = some r
-named Nothing = none
+row_of code = unwrap_or (rate_of code) zero_row
 
 -- c is the smallest whole number not below a/b
 pub record Ceiling (a b c : ℕ) : Type 0 where

@@ -2,24 +2,17 @@
 #![tactic(auto)]
 
 ghost use Rattle.std.specs.Prelude.{◌≡◌};
-ghost use Rattle.rate.specs.Rates.{named, rate_of, is_named};
+ghost use Rattle.rate.specs.Rates.{rate_of, is_named};
 
 // A rate: its code, its samples a second, the smoothing figure K, the hangover I in samples, and
 // D, the envelope's error bound in units of 2^-24 quantizing interval.
-#[derive(Clone, Copy)]
+#[derive(Clone, Copy, Debug, PartialEq, Eq)]
 pub struct Rate {
     pub code: u32,
     pub hertz: u64,
     pub k: u64,
     pub i: u64,
     pub d: u64,
-}
-
-// What a code names.
-#[derive(Clone, Copy)]
-pub enum Named {
-    As(Rate),
-    Nothing,
 }
 
 impl Rate {
@@ -63,29 +56,26 @@ impl Rate {
         d: 2881,
     };
 
-    // The rate that a code names.
-    #[tactic(auto, unfolding(crate::specs::Rates::named, crate::specs::Rates::rate_of))]
-    pub fn of(code: u32) -> Named
-        ensures { named result ≡ rate_of code }
+    // The rate that a code names, if any.
+    #[tactic(auto, unfolding(crate::specs::Rates::rate_of))]
+    pub fn of(code: u32) -> Option<Rate>
+        ensures { result ≡ rate_of code }
     {
         match code {
-            1 => Named::As(Rate::HZ_694),
-            2 => Named::As(Rate::HZ_8000),
-            3 => Named::As(Rate::HZ_16000),
-            4 => Named::As(Rate::HZ_32000),
-            5 => Named::As(Rate::HZ_48000),
-            _ => Named::Nothing,
+            1 => Some(Rate::HZ_694),
+            2 => Some(Rate::HZ_8000),
+            3 => Some(Rate::HZ_16000),
+            4 => Some(Rate::HZ_32000),
+            5 => Some(Rate::HZ_48000),
+            _ => None,
         }
     }
 }
 
 // Whether a code names a rate.
-#[tactic(auto, unfolding(crate::specs::Rates::named, crate::specs::Rates::is_named))]
+#[tactic(auto, unfolding(crate::specs::Rates::is_named))]
 pub fn is_named(code: u32) -> bool
     ensures { result ≡ is_named code }
 {
-    match Rate::of(code) {
-        Named::As(_) => true,
-        Named::Nothing => false,
-    }
+    Rate::of(code).is_some()
 }

@@ -1,8 +1,6 @@
 -- The numbers of METHOD.md, "Why a call is refused".
-use Rattle.std.specs.Prelude.{ℕ}
+use Rattle.std.specs.Prelude.{ℕ, Result, Ok, Err}
 use Rattle.refusal.specs.declared.Refusal.{Refusal}
-use Rattle.refusal.specs.declared.Answer.{Answer}
-use Rattle.refusal.specs.declared.Answer.TheVariants.{Accepted, Refused}
 use Rattle.refusal.specs.declared.Refusal.TheVariants.{UnnamedRate, ImpossibleMeter, LongChunk, BlockLength, BlockCheck, BlockKind, BlockRate, BlockCount, BlockUnused, BlockPlace, TooManySamples, NoSamples, NoSignal, NoActivity, NoCrossingBelow, NoCrossingAbove, WrongMargin, UnwritableSamples, ListLength, ListEntry, ListEnd}
 
 -- the number of each refusal
@@ -30,6 +28,6 @@ number_of ListEntry = 20
 number_of ListEnd = 21
 
 -- the number of each answer to a call
-abbrev pub number_given : Answer → ℕ
-number_given Accepted = 0
-number_given (Refused why) = number_of why
+abbrev pub number_given : Result Unit Refusal → ℕ
+number_given (Ok u) = 0
+number_given (Err why) = number_of why

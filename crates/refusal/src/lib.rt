@@ -5,7 +5,7 @@ ghost use Rattle.std.specs.Prelude.{◌≡◌};
 ghost use Rattle.refusal.specs.Number.{number_of, number_given};
 
 // Each reason under its own name. Its number is the one that the host is given.
-#[derive(Clone, Copy)]
+#[derive(Clone, Copy, Debug, PartialEq, Eq)]
 pub enum Refusal {
     // 1: opening, or making a block, with a code that names no rate
     UnnamedRate,
@@ -51,48 +51,43 @@ pub enum Refusal {
     ListEnd,
 }
 
-// What a call answers.
-#[derive(Clone, Copy)]
-pub enum Answer {
-    Accepted,
-    Refused(Refusal),
-}
+// The number that the host is given.
+impl From<Refusal> for u32 {
+    ghost from_gives = { λ why r. r ≡ number_of why };
 
-// The number of an answer: 0 where the call is accepted.
-pub fn given(answer: Answer) -> u32
-    ensures { result ≡ number_given answer }
-{
-    match answer {
-        Answer::Accepted => 0,
-        Answer::Refused(why) => number(why),
+    fn from(why: Refusal) -> u32 {
+        match why {
+            Refusal::UnnamedRate => 1,
+            Refusal::ImpossibleMeter => 2,
+            Refusal::LongChunk => 3,
+            Refusal::BlockLength => 4,
+            Refusal::BlockCheck => 5,
+            Refusal::BlockKind => 6,
+            Refusal::BlockRate => 7,
+            Refusal::BlockCount => 8,
+            Refusal::BlockUnused => 9,
+            Refusal::BlockPlace => 10,
+            Refusal::TooManySamples => 11,
+            Refusal::NoSamples => 12,
+            Refusal::NoSignal => 13,
+            Refusal::NoActivity => 14,
+            Refusal::NoCrossingBelow => 15,
+            Refusal::NoCrossingAbove => 16,
+            Refusal::WrongMargin => 17,
+            Refusal::UnwritableSamples => 18,
+            Refusal::ListLength => 19,
+            Refusal::ListEntry => 20,
+            Refusal::ListEnd => 21,
+        }
     }
 }
 
-// The number of a refusal.
-pub fn number(why: Refusal) -> u32
-    ensures { result ≡ number_of why }
+// The number of an answer to a call: 0 where the call is accepted.
+pub fn given(answer: Result<(), Refusal>) -> u32
+    ensures { result ≡ number_given answer }
 {
-    match why {
-        Refusal::UnnamedRate => 1,
-        Refusal::ImpossibleMeter => 2,
-        Refusal::LongChunk => 3,
-        Refusal::BlockLength => 4,
-        Refusal::BlockCheck => 5,
-        Refusal::BlockKind => 6,
-        Refusal::BlockRate => 7,
-        Refusal::BlockCount => 8,
-        Refusal::BlockUnused => 9,
-        Refusal::BlockPlace => 10,
-        Refusal::TooManySamples => 11,
-        Refusal::NoSamples => 12,
-        Refusal::NoSignal => 13,
-        Refusal::NoActivity => 14,
-        Refusal::NoCrossingBelow => 15,
-        Refusal::NoCrossingAbove => 16,
-        Refusal::WrongMargin => 17,
-        Refusal::UnwritableSamples => 18,
-        Refusal::ListLength => 19,
-        Refusal::ListEntry => 20,
-        Refusal::ListEnd => 21,
+    match answer {
+        Ok(()) => 0,
+        Err(why) => why.into(),
     }
 }
