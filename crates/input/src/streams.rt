@@ -1,113 +1,115 @@
-// What a program reads and writes, together: all that waits is written before the program waits for input.
-use crate::{Coming, Source, source};
-use page::{Page, Writing};
+// What a program reads and writes, together: all that waits is written before the program waits for
+// input.
+use crate::source::{Coming, Source};
+use page::Page;
+use std::fmt::Display;
 
-// What is read comes from standard input, what is written goes to standard output.
-#[derive(Clone, Copy)]
-pub struct Streams {
-    pub source: Source,
-    pub page: Page,
+// What is read comes from standard input through a buffer of `IN` bytes, and what is written goes to
+// standard output by pages of `OUT` bytes.
+pub struct Streams<const IN: usize, const OUT: usize> {
+    source: Source<IN>,
+    page: Page<OUT>,
     rt: HostRuntime,
 }
 
-impl Streams {
-    pub fn new(rt: HostRuntime) -> Streams {
+impl<const IN: usize, const OUT: usize> Streams<IN, OUT> {
+    pub fn new(rt: HostRuntime) -> Self {
         Streams {
             source: Source::new(),
-            page: Page::blank(),
+            page: Page::new(),
             rt,
         }
     }
 
-    // The streams once so many bytes are read and not yet used, or no more come, or a write failed.
-    pub fn ready(self, bytes: &mut [u8], lines: &mut [u8], n: usize) -> Streams {
-        let source = self.source;
-        let page = self.page;
-        let rt = self.rt;
-        if n <= source.unused() {
-            return self;
+    // Reads until so many bytes are there that are not yet used, or no more come. Where they are not
+    // there, all that waits is written first; after a write that failed nothing is read.
+    pub fn ready(&mut self, n: usize) {
+        if n <= self.unused() {
+            return;
         }
-        let written = page.written(&rt.stdout(), lines);
-        if !written.is_well() {
-            return Streams {
-                source,
-                page: written,
-                rt,
-            };
-        }
-        Streams {
-            source: source.gathered(&mut rt.stdin(), bytes, n),
-            page: written,
-            rt,
+        self.page.write_out(&self.rt.stdout());
+        if self.page.is_well() {
+            self.source.gather(&mut self.rt.stdin(), n);
         }
     }
 
-    // The streams with so many bytes more used.
-    pub fn used(self, n: usize) -> Streams {
-        let source = self.source;
-        let page = self.page;
-        let rt = self.rt;
-        Streams {
-            source: source.used(n),
-            page,
-            rt,
-        }
+    // The bytes that are read and not yet used, at most so many.
+    pub fn ahead(&self, n: usize) -> &[u8] {
+        let unused = self.source.unused();
+        &unused[..n.min(unused.len())]
     }
 
-    // The streams with a line more, or a piece of one, that waits to be written.
-    pub fn put(self, lines: &mut [u8], line: &[u8]) -> Streams {
-        let source = self.source;
-        let page = self.page;
-        let rt = self.rt;
-        Streams {
-            source,
-            page: page.put(&rt.stdout(), lines, line),
-            rt,
-        }
+    // How many bytes are read and not yet used.
+    pub fn unused(&self) -> usize {
+        self.source.unused().len()
     }
 
-    // Reads through so many bytes.
-    pub fn passed(self, bytes: &mut [u8], lines: &mut [u8], n: usize) -> Passed {
-        let mut streams = self;
+    // Uses so many bytes more, as far as they are read.
+    pub fn skip(&mut self, n: usize) {
+        self.source.skip(n);
+    }
+
+    // Reads through so many bytes, and answers with how many of them did not come.
+    pub fn pass(&mut self, n: usize) -> usize {
         let mut left = n;
         while 0 < left {
-            streams = streams.ready(bytes, lines, 1);
-            let source = streams.source;
-            let count = coding::least(left, source.unused());
+            self.ready(1);
+            let count = left.min(self.unused());
             if count == 0 {
-                return Passed { streams, left };
+                return left;
             }
-            streams = streams.used(count);
+            self.skip(count);
             left -= count;
         }
-        Passed { streams, left }
+        0
     }
 
-    // Writes all that waits, and says on standard error what failed, where something did.
-    pub fn closed(self, lines: &[u8], program: &[u8]) {
-        let source = self.source;
-        let page = self.page;
-        let rt = self.rt;
-        let coming = source.coming;
-        if let Coming::Failed(error) = coming {
-            page::unread(&rt.stderr(), program, source.read, error);
-        }
-        let writing = page.written(&rt.stdout(), lines).writing;
-        if let Writing::Failed(error) = writing {
-            page::unwritten(&rt.stderr(), program, error);
-        }
+    // Whether all of the input was read.
+    pub fn has_ended(&self) -> bool {
+        self.source.reading == Ok(Coming::End)
+    }
+
+    // Whether no write has failed.
+    pub fn is_well(&self) -> bool {
+        self.page.is_well()
+    }
+
+    // How many bytes of the input were used.
+    pub fn place(&self) -> u64 {
+        self.source.place()
+    }
+
+    // How many bytes of the input were read.
+    pub fn read(&self) -> u64 {
+        self.source.read
+    }
+
+    // Bytes more that wait to be written.
+    pub fn put(&mut self, bytes: &[u8]) {
+        self.page.put(&self.rt.stdout(), bytes);
+    }
+
+    // A line more, or a piece of one, that waits to be written.
+    pub fn print<D: Display + Drop>(&mut self, line: D) {
+        self.page.print(&self.rt.stdout(), line);
     }
 
     // Says a line on standard error.
-    pub fn told(self, line: &[u8]) {
-        let rt = self.rt;
-        page::told(&rt.stderr(), line);
+    pub fn told<D: Display + Drop>(&self, line: D) {
+        page::told(&self.rt.stderr(), line);
     }
-}
 
-// The streams after a part of the input was to be read through, and how many of its bytes did not come.
-#[derive(Clone, Copy)]
-pub struct Passed {
-    pub streams: Streams,
-    pub left: usize,
+    // Writes all that waits, and says on standard error what failed, where something did.
+    pub fn closed(&mut self, program: &str) {
+        if let Err(error) = self.source.reading {
+            let bytes = self.source.read;
+            self.told(format_args!(
+                "{program}: reading standard input failed after {bytes} bytes: {error}\n"
+            ));
+        }
+        self.page.write_out(&self.rt.stdout());
+        if let Err(error) = self.page.writing() {
+            self.told(format_args!("{program}: writing standard output failed: {error}\n"));
+        }
+    }
 }

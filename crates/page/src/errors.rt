@@ -1,26 +1,56 @@
 // The errors of the system that the programs can meet, by their numbers on Linux.
-use std::io;
+use std::{fmt, io};
 
-// It stands for an error that is none of the system's.
-pub const NONE: i32 = 0;
+const EINTR: i32 = 4;
 
-pub const EINTR: i32 = 4;
+const EIO: i32 = 5;
 
-pub const EIO: i32 = 5;
+const EBADF: i32 = 9;
 
-pub const EBADF: i32 = 9;
+const EAGAIN: i32 = 11;
 
-pub const EAGAIN: i32 = 11;
+const EISDIR: i32 = 21;
 
-pub const EISDIR: i32 = 21;
+const EFBIG: i32 = 27;
 
-pub const EFBIG: i32 = 27;
+const ENOSPC: i32 = 28;
 
-pub const ENOSPC: i32 = 28;
+const EPIPE: i32 = 32;
 
-pub const EPIPE: i32 = 32;
+// An error by the system's number, which is what is printed of it. 0 is no error of the system's.
+#[derive(Clone, Copy, Debug, PartialEq, Eq)]
+pub struct SystemError(i32);
 
-// An error's number.
-pub fn number(error: &io::Error) -> i32 {
-    error.raw_os_error().unwrap_or(NONE)
+impl SystemError {
+    // Whether a signal came before the call did anything.
+    pub fn is_interrupted(self) -> bool {
+        self.0 == EINTR
+    }
+
+    // What it means, for those that the programs can meet.
+    fn meaning(self) -> &'static str {
+        match self.0 {
+            EINTR => ", interrupted too often",
+            EIO => ", the device failed",
+            EBADF => ", not open",
+            EAGAIN => ", it would have to wait",
+            EISDIR => ", a directory",
+            EFBIG => ", the file would be too large",
+            ENOSPC => ", no space left",
+            EPIPE => ", nobody reads the pipe",
+            _ => "",
+        }
+    }
+}
+
+impl From<io::Error> for SystemError {
+    fn from(error: io::Error) -> SystemError {
+        SystemError(error.raw_os_error().unwrap_or(0))
+    }
+}
+
+impl fmt::Display for SystemError {
+    fn fmt<W: fmt::Write>(&self, f: &mut fmt::Formatter<W>) -> fmt::Result {
+        write!(f, "error {}{}", self.0, self.meaning())
+    }
 }

@@ -1,12 +1,12 @@
-// Text in a lent buffer, the page on which lines wait for one write, and what is said on standard error.
+// The page on which lines wait for one write, what the system's errors mean, and what is said at once.
 #![tactic(auto)]
 
 mod errors;
-mod faults;
 mod page;
-mod text;
+mod sending;
+mod tries;
 
-pub use errors::{EINTR, number};
-pub use faults::{told, unread, unwritten};
-pub use page::{Page, Writing, filled, sent};
-pub use text::{end_of_line, hexadecimal, signed, spaced, spaced_signed, unsigned, words};
+pub use errors::SystemError;
+pub use page::Page;
+pub use sending::{sent, told};
+pub use tries::Tries;

@@ -1,106 +1,72 @@
-// A page: a lent buffer in which whole lines wait, so that many go out by one write and no write has
-// part of a line. A page of 4096 bytes, which a pipe takes whole, keeps its lines whole also where
-// several programs write into one pipe or one log. A longer line than a page comes in pieces: only the
-// line that shows a buffer of more than 513 bytes is put so. In `blocks` what waits are blocks, on a
-// page of its own size.
-use crate::{errors, text};
+// A page on which whole lines wait, so that many go out by one write and no write has part of a line.
+// A page of 4096 bytes, which a pipe takes whole, keeps its lines whole also where several programs
+// write into one pipe or one log. A longer line than a page comes in pieces: only the line that shows
+// a buffer of more than 513 bytes is put so. In `blocks` what waits are blocks, on a page of its own
+// size.
+use crate::{SystemError, sent};
+use arrayvec::ArrayVec;
+use std::fmt;
+use std::fmt::{Display, Write};
 
-// How writing goes: well, or a write failed with an error of the system's, by its number.
-#[derive(Clone, Copy)]
-pub enum Writing {
-    Well,
-    Failed(i32),
+// What waits to be written, and how writing goes: well, or a write failed.
+pub struct Page<const N: usize> {
+    waiting: ArrayVec<u8, N>,
+    writing: Result<(), SystemError>,
 }
 
-// How much of the buffer waits to be written, and how writing goes.
-#[derive(Clone, Copy)]
-pub struct Page {
-    pub used: usize,
-    pub writing: Writing,
-}
-
-impl Page {
+impl<const N: usize> Page<N> {
     // Nothing waits.
-    pub fn blank() -> Page {
+    pub fn new() -> Self {
         Page {
-            used: 0,
-            writing: Writing::Well,
+            waiting: ArrayVec::new(),
+            writing: Ok(()),
         }
     }
 
-    // The page with a line more, after a write where there is no room for it.
-    pub fn put<P: Print>(self, to: &P, buffer: &mut [u8], line: &[u8]) -> Page {
-        if self.used <= buffer.len() {
-            if line.len() <= buffer.len() - self.used {
-                let writing = self.writing;
-                return Page {
-                    used: text::words(buffer, self.used, line),
-                    writing,
-                };
-            }
+    // Puts bytes behind what waits, after a write where there is no room for them.
+    pub fn put<P: Print>(&mut self, to: &P, bytes: &[u8]) {
+        if self.waiting.try_extend_from_slice(bytes).is_err() {
+            self.write_out(to);
+            let fitting = bytes.len().min(N);
+            let _ = self.waiting.try_extend_from_slice(&bytes[..fitting]);
         }
-        let writing = self.written(to, buffer).writing;
-        Page {
-            used: text::words(buffer, 0, line),
-            writing,
+    }
+
+    // Puts a line, or a piece of one, likewise.
+    pub fn print<P: Print, D: Display + Drop>(&mut self, to: &P, line: D) {
+        let before = self.waiting.len();
+        if write!(self, "{line}").is_err() {
+            self.waiting.truncate(before);
+            self.write_out(to);
+            let _ = write!(self, "{line}");
         }
     }
 
     // Writes all that waits. After a failure nothing is written any more.
-    pub fn written<P: Print>(self, to: &P, buffer: &[u8]) -> Page {
-        let writing = self.writing;
-        match writing {
-            Writing::Failed(error) => Page {
-                used: 0,
-                writing: Writing::Failed(error),
-            },
-            Writing::Well => Page {
-                used: 0,
-                writing: sent(to, filled(buffer, self.used)),
-            },
+    pub fn write_out<P: Print>(&mut self, to: &P) {
+        if self.is_well() {
+            self.writing = sent(to, self.waiting.as_slice());
         }
+        self.waiting.clear();
     }
 
     // Whether no write has failed.
-    pub fn is_well(self) -> bool {
-        let writing = self.writing;
-        match writing {
-            Writing::Well => true,
-            Writing::Failed(_) => false,
-        }
+    pub fn is_well(&self) -> bool {
+        self.writing.is_ok()
+    }
+
+    // How writing goes.
+    pub fn writing(&self) -> Result<(), SystemError> {
+        self.writing
     }
 }
 
-// The part of a buffer that is used.
-pub fn filled(buffer: &[u8], used: usize) -> &[u8] {
-    if buffer.len() < used {
-        return buffer;
-    }
-    &buffer[0..used]
-}
-
-// How often an interrupted write is tried again.
-const TRIES: usize = 100;
-
-// Writes bytes, by one write where the system takes them all at once.
-pub fn sent<P: Print>(to: &P, bytes: &[u8]) -> Writing {
-    let mut done = 0;
-    let mut tries = 0;
-    while done < bytes.len() {
-        match to.write_some(&bytes[done..]) {
-            Ok(0) => return Writing::Failed(errors::NONE),
-            Ok(put) => done += put,
-            Err(error) => {
-                let number = errors::number(&error);
-                if number != errors::EINTR {
-                    return Writing::Failed(number);
-                }
-                if tries == TRIES {
-                    return Writing::Failed(number);
-                }
-                tries += 1;
-            }
+// Text goes behind what waits, as far as there is room.
+impl<const N: usize> Write for Page<N> {
+    fn write_str(&mut self, text: &str) -> fmt::Result {
+        match self.waiting.try_extend_from_slice(text.as_bytes()) {
+            Ok(()) => Ok(()),
+            Err(_) => Err(fmt::Error),
         }
     }
-    Writing::Well
 }

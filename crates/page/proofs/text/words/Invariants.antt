@@ -1,9 +1,0 @@
--- The bytes that are still to be put fall.
-use Rattle.std.proofs.Common.{◌-◌, ◌≤◌}
-use Rattle.page.proofs.text.words.Given as goal
-
-abbrev pub invariant-loop-i : goal.invariant-loop-i
-invariant-loop-i l = l.i ≤ l.n
-
-abbrev pub decreases-loop-i : goal.decreases-loop-i
-decreases-loop-i l = l.n - l.i
