@@ -14,6 +14,7 @@ pub enum Coming {
 
 // A buffer with the bytes that are read and not yet used, from `at` up to `end`; how many were read in
 // all; and how reading goes.
+#[derive(Drop)]
 pub struct Source<const N: usize> {
     buffer: [u8; N],
     at: usize,

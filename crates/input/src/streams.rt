@@ -6,6 +6,7 @@ use std::fmt::Display;
 
 // What is read comes from standard input through a buffer of `IN` bytes, and what is written goes to
 // standard output by pages of `OUT` bytes.
+#[derive(Drop)]
 pub struct Streams<const IN: usize, const OUT: usize> {
     source: Source<IN>,
     page: Page<OUT>,

@@ -9,6 +9,7 @@ use std::fmt;
 use std::fmt::{Display, Write};
 
 // What waits to be written, and how writing goes: well, or a write failed.
+#[derive(Drop)]
 pub struct Page<const N: usize> {
     waiting: ArrayVec<u8, N>,
     writing: Result<(), SystemError>,
