@@ -1,13 +1,16 @@
 -- One of the places below k, or from k on: from each to all, and from all to each.
-use mathlib.Core.Bool.{Bool, true, false, ◌&&◌, ◌||◌, or-true}
+use mathlib.Core.Bool.{Bool, true, false, ◌&&◌, ◌||◌, or-true, or-false, or_assoc}
+use mathlib.Core.List.{List, [], ◌∷◌}
 use mathlib.Core.Logic.{⊎_elim}
-use mathlib.Core.Path.{◌≡◌, refl, sym, ap, ◌∙◌, subst}
+use mathlib.Core.Path.{◌≡◌, refl, sym, ap, ap₂, ◌∙◌, subst}
 use Prim.Native.Nat.{ℕ, zero, suc, ◌+◌, ◌≤◌, ◌<◌}
 use native.Mathlib.Nat.{eq-or-lt_of_le, le_of_suc-le-suc, not-suc-le-zero, le-suc, lt_of_lt_of_le}
 use native.Mathlib.Numerals.{add-one}
 use native.Mathlib.Omega.{arith}
 use borrow.Author.Tests.{le-leb, leb-true}
 use lib.Dec.{T, leb}
+use lib.ListN.{length, get_or}
+use Rattle.std.specs.List.{list_any}
 use Rattle.thresholds.specs.Places.{some_below, some_from}
 
 pub neither : (x y : Bool) → x || y ≡ false → (x ≡ false) × (y ≡ false)
@@ -80,3 +83,28 @@ passed_on k f j p e =
 
 pub passed_all : (k n : ℕ) (f : ℕ → Bool) (j : ℕ) → Passed k f j → n ≤ j → some_from k n f ≡ false
 passed_all k n f j p m = none_from k n f (λ i r l. p.none i r (omega (arith, m, l)))
+
+-- ---- a search through a list, as one through places
+
+first_or_later : (k : ℕ) (f : ℕ → Bool) → some_below (suc k) f ≡ f 0 || some_below k (λ j. f (suc j))
+unfolding some_below
+first_or_later zero f = sym (or-false (f 0))
+first_or_later (suc k) f = ap (λ (b : Bool). b || f (suc k)) (first_or_later k f) ∙ or_assoc (f 0) (some_below k (λ j. f (suc j))) (f (suc k))
+
+pub list_any-below : {A : Type 0} (d : A) (test : A → Bool) (l : List A) (f : ℕ → Bool) → ((j : ℕ) → j < length l → test (get_or l j d) ≡ f j) → list_any test l ≡ some_below (length l) f
+unfolding some_below
+list_any-below d test [] f e = refl
+list_any-below d test (x ∷ l) f e =
+    ap₂ ◌||◌ (e 0 (omega arith)) (list_any-below d test l (λ j. f (suc j)) (λ j h. e (suc j) (omega arith)))
+    ∙ sym (first_or_later (length l) f)
+
+below_past : (k n : ℕ) (f : ℕ → Bool) → some_below n (λ j. f (k + j)) ≡ some_from k (k + n) f
+unfolding some_below some_from
+below_past k zero f = sym (none_from k (k + 0) f (λ j m l. absurd (omega arith)))
+below_past k (suc n) f =
+    let e : suc (k + n) ≡ k + suc n = omega arith in
+    ap₂ (λ (x y : Bool). x || (y && f (k + n))) (below_past k n f) (sym (le-leb k (k + n) (omega arith))) ∙ ap (λ (m : ℕ). some_from k m f) e
+
+-- the first of the list stands at place k
+pub list_any-from : {A : Type 0} (d : A) (test : A → Bool) (l : List A) (k n : ℕ) (f : ℕ → Bool) → k + length l ≡ n → ((j : ℕ) → j < length l → test (get_or l j d) ≡ f (k + j)) → list_any test l ≡ some_from k n f
+list_any-from d test l k n f e h = list_any-below d test l (λ j. f (k + j)) h ∙ below_past k (length l) f ∙ ap (λ (m : ℕ). some_from k m f) e

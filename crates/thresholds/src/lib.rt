@@ -4,11 +4,9 @@
 
 mod loading;
 
-ghost use Rattle.std.specs.Prelude.{◌≡◌, ◌+◌, ◌<◌, get_or};
+ghost use Rattle.std.specs.Prelude.{◌≡◌, ◌+◌, ◌<◌};
 ghost use Rattle.thresholds.specs.Lists.{places, doubled, built_in_count, built_in_list, no_list, held_of};
 ghost use Rattle.thresholds.specs.Places.{each, up_to};
-
-pub use loading::{load, unloadable};
 
 // How many places a list has: the most thresholds that it may hold.
 pub const PLACES: usize = 24;
@@ -32,7 +30,7 @@ impl Thresholds {
     pub fn built_in() -> Thresholds
         ensures { result ≡ built_in_list }
     {
-        let mut at = [0u64; PLACES];
+        let mut at = [0; PLACES];
         double_up_to(&mut at, BUILT_IN - 1);
         Thresholds {
             count: BUILT_IN,
@@ -45,12 +43,9 @@ impl Thresholds {
     pub fn of(list: &[u64]) -> Thresholds
         ensures { result ≡ held_of list.now }
     {
-        let mut at = [0u64; PLACES];
-        let mut j = 0;
-        while j < PLACES {
-            at[j] = entry(list, j);
-            j += 1;
-        }
+        let held = list.len().min(PLACES);
+        let mut at = [0; PLACES];
+        at[..held].copy_from_slice(&list[..held]);
         Thresholds {
             count: list.len(),
             at,
@@ -81,11 +76,4 @@ fn double_up_to(at: &mut [u64; PLACES], j: usize)
         double_up_to(at, j - 1);
         at[j] = 2 * at[j - 1];
     }
-}
-
-// An entry of a list, 0 past its end.
-fn entry(list: &[u64], j: usize) -> u64
-    ensures { result ≡ get_or list.now j 0 }
-{
-    if j < list.len() { list[j] } else { 0 }
 }

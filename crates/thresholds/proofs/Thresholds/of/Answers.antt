@@ -1,22 +1,35 @@
--- Each turn fills one place more, and past the last the list is whole.
-use Rattle.std.proofs.Common.{◌≡◌, ℕ, length, List, refl, ap, ◌∙◌, arith}
-use Rattle.std.proofs.Math.ListN.{set}
+-- The places up to the list's end hold its entries, and both read 0 past it.
+use Rattle.std.proofs.Common.{◌≡◌, ℕ, ◌+◌, ◌-◌, ◌≤◌, ◌<◌, ◌++◌, List, length, min, get_or, take, drop, replicate, ap, ◌∙◌, sym, length-append, length-drop, arith}
+use Rattle.std.proofs.Math.ListN.{get_or-eq_default}
+use Rattle.std.proofs.lemmas.Bool.{cases_lt}
+use Rattle.std.proofs.lemmas.List.{get_or-take, get_or-drop, get_or_append_left, get_or-append_right, get_or-replicate, length-take}
+use mathlib.Core.Logic.{⊎_elim}
 use Rattle.thresholds.specs.Lists.{places, held_of}
-use Rattle.thresholds.specs.Places.{each, up_to, list_from}
-use Rattle.thresholds.proofs.Places.{one_place, each_same, up_to_at}
+use Rattle.thresholds.specs.Places.{each}
+use Rattle.thresholds.proofs.Places.{is_each}
 use Rattle.thresholds.proofs.Thresholds.of.Goals as goal
 
-pub loop-j-init : goal.loop-j-init
-unfolding up_to list_from
-loop-j-init c = (omega arith, refl)
+zeros : List ℕ
+zeros = replicate places 0
 
-pub loop-j-preserved : goal.loop-j-preserved
-loop-j-preserved c =
-    (omega arith, ap (λ (x : List ℕ). set x c.loop-j.j c.entry.result) c.loop-j.invariant.1 ∙ one_place places _ c.loop-j.j c.entry.result c.loop-j-test.true c.entry.ensures)
+-- n entries are copied, which are all or fill the places
+copied : (l copy : List ℕ) (n : ℕ) → n ≡ min (length l) places → copy ≡ take n l → copy ++ drop n zeros ≡ each places (λ j. get_or l j 0)
+unfolding zeros
+copied l copy n e f =
+    is_each 0 places (copy ++ drop n zeros) (λ j. get_or l j 0) (omega (arith, len, length-append copy (drop n zeros), length-drop n zeros))
+    (λ j h. ⊎_elim (before j) (past j h) (cases_lt j n))
+  where
+    len : length copy ≡ n
+    len = ap length f ∙ omega (arith, length-take n l)
 
-whole : (f : ℕ → ℕ) (at : List ℕ) (j : ℕ) → j ≡ places → at ≡ each places (up_to j f) → at ≡ each places f
-whole f at j e h = h ∙ ap (λ (k : ℕ). each places (up_to k f)) e ∙ each_same places (up_to places f) f (λ i l. up_to_at places f i l)
+    before : (j : ℕ) → j < n → get_or (copy ++ drop n zeros) j 0 ≡ get_or l j 0
+    before j b = get_or_append_left copy (drop n zeros) 0 j (omega (arith, len)) ∙ ap (λ (x : List ℕ). get_or x j 0) f ∙ get_or-take n l j 0 b
+
+    past : (j : ℕ) → j < places → n ≤ j → get_or (copy ++ drop n zeros) j 0 ≡ get_or l j 0
+    past j h b =
+        get_or-append_right copy (drop n zeros) n j 0 len b ∙ get_or-drop n zeros (j - n) 0 ∙ get_or-replicate places (n + (j - n)) 0 0 (omega arith)
+        ∙ sym (get_or-eq_default l 0 (omega arith))
 
 pub returns : goal.returns
-unfolding held_of
-returns c = ap (λ (x : List ℕ). record { count = length c.args.list.now; at = x }) (whole _ _ c.loop-j.j (omega arith) c.loop-j.invariant.1)
+unfolding held_of zeros
+returns c = ap (λ (x : List ℕ). record { count = length c.args.list.now; at = x }) (copied c.args.list.now _ _ c.min-held.ensures c.copy_from_slice.ensures.after)
