@@ -1,13 +1,11 @@
 -- The three facts about lev: `facts`, by which the crates above know it. The place of the highest one bit and the start m bound n on both sides,
 -- and the squarings carry both bounds to n^4096.
-use mathlib.Core.Option.{none, some}
 use Rattle.std.proofs.Common.{◌≡◌, ℕ, zero, suc, ◌+◌, ◌*◌, ◌/◌, ◌^◌, ◌<◌, ◌≤◌, Bool, true, false, cond, leb, pos, sym, refl, ap, ◌∙◌, subst, le_trans, le_of_eq, lt_of_lt_of_le, le_of_suc-le-suc, lt_of_le_of_lt, mul-le-mul_right, mul_assoc, mul_comm, div-lt_iff_lt-mul, le_antisymm, lt_of_mul-lt-mul_right, mul-le-mul_left, mul-lt-mul_of_pos_right, pow-suc, lt_of_not-le, le-div_iff_mul-le, not-le_of_lt, div-mul-le_self, le_of_mul-le-mul_right, arith, pow_pos, pow_mono, pow-add, le-leb, leb-false, leb-true}
 use native.Mathlib.Nat.{one-le-pow, pow-le-pow_left, lt-div-mul-add}
 use native.Mathlib.Decide.{dec_le}
 use lib.Pow.{shr_mono}
+use Rattle.std.specs.Prelude.{Option, Some, None}
 use Rattle.level.specs.Logarithm.{place_up_to, place, spell, start, lev, level_of, value_of, steps_in, Facts}
-use Rattle.level.specs.declared.Level.{Level}
-use Rattle.level.specs.declared.Level.TheVariants.{At, None}
 use Rattle.level.specs.declared.Steps.{Steps}
 use Rattle.level.proofs.Powers.{mul_pow, pow_mul}
 use Rattle.level.proofs.Squarings.{low, up, spell_lt, spell_mono}
@@ -52,32 +50,6 @@ place_is n b h l u =
 
 pub place_mono : (n p : ℕ) → 1 ≤ n → n ≤ p → p ≤ 2 ^ 80 → place n ≤ place p
 place_mono n p h l u = le_of_suc-le-suc (pow_lt_cancel (lt_of_le_of_lt (place_low n h) (lt_of_le_of_lt l (place_up p u))))
-
--- the place in a word
-pub record Place (n b : ℕ) : Type 0 where
-  pub word : b < 64
-  pub low : 2 ^ b ≤ n
-  pub up : n < 2 ^ suc b
-
-pub word_place : (n : ℕ) → 0 < n → n < 2 ^ 64 → Place n (place_up_to 63 n)
-word_place n h l =
-    let low = from_low 63 n h in
-    record { word = pow_lt_cancel {b = 64} (lt_of_le_of_lt low l); low = low; up = from_up 63 n l }
-
--- the place that the code finds in a word
-pub found : (n b : ℕ) → 0 < n → n < 2 ^ 64 → b ≡ place_up_to 63 n → Place n b
-found n b h f e = subst (λ (p : ℕ). Place n p) (sym e) (word_place n h f)
-
-pub word_place_is : (n b : ℕ) → n < 2 ^ 64 → Place n b → b ≡ place_up_to 63 n
-word_place_is n b l p =
-    let q = word_place n (le_trans (pow_pos b) p.low) l in
-    le_antisymm
-    (le_of_suc-le-suc (pow_lt_cancel (lt_of_le_of_lt p.low q.up)))
-    (le_of_suc-le-suc (pow_lt_cancel (lt_of_le_of_lt q.low p.up)))
-
-pub place_zero : (n : ℕ) → n ≡ 0 → 0 ≡ place_up_to 63 n
-unfolding place_up_to
-place_zero n e = sym (ap (place_up_to 63) e)
 
 -- ---- m at the start
 
@@ -159,28 +131,18 @@ facts = record { never_falls = never_falls; at_most = λ n h u. at_most n h; les
 
 -- ---- what an answer tells its caller
 
-pub level_exists : (n : ℕ) → 1 ≤ n → n ≤ 2 ^ 80 → level_of n ≡ some (pos (lev n))
+pub level_exists : (n : ℕ) → 1 ≤ n → n ≤ 2 ^ 80 → level_of n ≡ Some (pos (lev n))
 unfolding level_of
 level_exists n h u = simp (le-leb 1 n h, le-leb n (2 ^ 80) u)
 
-pub level_read : (n : ℕ) (r : Level) (s : Steps) → 1 ≤ n → n ≤ 2 ^ 80 → value_of r ≡ level_of n → r ≡ At s → s.0 ≡ pos (lev n)
-unfolding value_of
-level_read n r s h u e f = let q : some s.0 ≡ some (pos (lev n)) = sym (ap value_of f) ∙ e ∙ level_exists n h u in cc
-
-pub level_some : (n : ℕ) (r : Level) → 1 ≤ n → n ≤ 2 ^ 80 → value_of r ≡ level_of n → r ≡ None → ⊥
-unfolding value_of
-level_some n r h u e f =
-    let q : none ≡ some (pos (lev n)) = sym (ap value_of f) ∙ e ∙ level_exists n h u in
-    let z : ◌≡◌ {A = ℕ} 0 1 = cc in
-    omega arith
-
 -- an answer for a number in range holds its level
-pub level_known : (n : ℕ) (r : Level) → 1 ≤ n → n ≤ 2 ^ 80 → value_of r ≡ level_of n → steps_in r ≡ pos (lev n)
-level_known n (At s) h u e = level_read n (At s) s h u e refl
-level_known n None h u e = absurd (level_some n None h u e refl)
+pub level_known : (n : ℕ) (r : Option Steps) → 1 ≤ n → n ≤ 2 ^ 80 → value_of r ≡ level_of n → steps_in r ≡ pos (lev n)
+unfolding value_of
+level_known n (Some s) h u e = let q = e ∙ level_exists n h u in cc
+level_known n None h u e = let q = e ∙ level_exists n h u in cc
 
 -- and one for any other number holds 0
-pub level_unknown : (n : ℕ) (r : Level) → level_of n ≡ none → value_of r ≡ level_of n → steps_in r ≡ pos 0
+pub level_unknown : (n : ℕ) (r : Option Steps) → level_of n ≡ None → value_of r ≡ level_of n → steps_in r ≡ pos 0
 unfolding value_of
-level_unknown n (At s) f e = let q : some s.0 ≡ none = e ∙ f in let z : ◌≡◌ {A = ℕ} 0 1 = cc in absurd (omega arith)
+level_unknown n (Some s) f e = let q = e ∙ f in cc
 level_unknown n None f e = refl

@@ -3,5 +3,4 @@ pub mod Powers
 mod Squarings
 pub mod Laws
 mod Tight
-mod Window
 pub mod Words

@@ -1,6 +1,6 @@
 -- The squarings of the level logarithm: one bounded both ways, then k by induction, at a variable k. An upper bound m + e on the true mantissa
 -- goes over to the next one as 3e + 1. Nothing is computed with the exponent 2^12.
-use Rattle.std.proofs.Common.{◌≡◌, ℕ, zero, suc, ◌+◌, ◌-◌, ◌*◌, ◌/◌, ◌^◌, ◌<◌, ◌≤◌, Bool, true, false, cond, leb, sym, refl, ap, ◌∙◌, subst, le_trans, le_of_eq, lt_of_lt_of_le, lt_of_le_of_lt, mul-le-mul_right, zero-lt-suc, mul_assoc, mul_comm, mul-le-mul, mul-le-mul_left, mul-lt-mul_of_pos_right, pow-suc, lt_of_not-le, mul-one, mul_left_comm, arith, pow_pos, pow-add, leb-false, leb-true}
+use Rattle.std.proofs.Common.{◌≡◌, ℕ, zero, suc, ◌+◌, ◌-◌, ◌*◌, ◌/◌, ◌^◌, ◌<◌, ◌≤◌, Bool, true, false, cond, leb, sym, refl, ap, ◌∙◌, le_trans, le_of_eq, lt_of_lt_of_le, lt_of_le_of_lt, mul-le-mul_right, zero-lt-suc, mul_assoc, mul_comm, mul-le-mul, mul-le-mul_left, mul-lt-mul_of_pos_right, pow-suc, lt_of_not-le, mul-one, mul_left_comm, arith, pow_pos, pow-add, leb-false, leb-true}
 use native.Mathlib.Nat.{one-le-pow, pow-le-pow_left, two-pow-succ}
 use lib.Pow.{shr_mono}
 use Rattle.level.specs.Logarithm.{bit, next, spell}
@@ -157,33 +157,45 @@ spell_mono (suc k) m n h =
     spell_cond (2 ^ k) (m * m) (n * n) (spell k (next (m * m))) (spell k (next (n * n))) (leb (2 ^ 63) (m * m)) (leb (2 ^ 63) (n * n)) refl refl (mul-le-mul h h)
     (spell_lt k (next (m * m))) (spell_mono k (next (m * m)) (next (n * n)))
 
--- ---- a turn of a loop that takes the steps one by one: r is what the bits so far spell, and k steps are left
+-- ---- a loop that takes the twelve steps one by one
 
-bit_is : (t : ℕ) (b : Bool) → leb (2 ^ 63) t ≡ b → bit t ≡ cond b 1 0
+-- the bits so far, and those that are left for m, spell what twelve squarings of start spell
+pub record Spells (start m bits turns : ℕ) : Type 0 where
+  pub fits : m < 2 ^ 32
+  pub spells : bits * 2 ^ (12 - turns) + spell (12 - turns) m ≡ spell 12 start
+
+-- t / 2^63 is the bit
+bit_is : (t : ℕ) → t < 2 ^ 64 → t / 2 ^ 63 ≡ bit t
 unfolding bit
-bit_is t b e = ap (λ (x : Bool). cond x 1 0) e
+bit_is t h = go (leb (2 ^ 63) t) refl
+  where
+    go : (b : Bool) → leb (2 ^ 63) t ≡ b → t / 2 ^ 63 ≡ cond b 1 0
+    go true e = omega (arith, leb-true (2 ^ 63) t e)
+    go false e = omega (arith, leb-false (2 ^ 63) t e)
 
-next_is : (t : ℕ) (b : Bool) → leb (2 ^ 63) t ≡ b → next t ≡ cond b (t / 2 ^ 32) (t / 2 ^ 31)
-unfolding next
-next_is t b e = ap (λ (x : Bool). cond x (t / 2 ^ 32) (t / 2 ^ 31)) e
+next_is : (t : ℕ) → t / 2 ^ (31 + bit t) ≡ next t
+unfolding next bit
+next_is t = go (leb (2 ^ 63) t)
+  where
+    go : (b : Bool) → t / 2 ^ (31 + cond b 1 0) ≡ cond b (t / 2 ^ 32) (t / 2 ^ 31)
+    go true = refl
+    go false = refl
 
-turn_suc : (b : Bool) (S j m r : ℕ) → leb (2 ^ 63) (m * m) ≡ b → r * 2 ^ suc j + spell (suc j) m ≡ S → (2 * r + cond b 1 0) * 2 ^ j + spell j (cond b (m * m / 2 ^ 32) (m * m / 2 ^ 31)) ≡ S
+turn_suc : (S j m r : ℕ) → r * 2 ^ suc j + spell (suc j) m ≡ S → (2 * r + bit (m * m)) * 2 ^ j + spell j (next (m * m)) ≡ S
 unfolding spell
-turn_suc b S j m r e h =
-    rw (← (bit_is (m * m) b e), ← (next_is (m * m) b e)) (omega (arith, rw (two-pow-succ j) at h))
+turn_suc S j m r h = omega (arith, rw (two-pow-succ j) at h)
 
-pub turn : (b : Bool) (S k m r : ℕ) → leb (2 ^ 63) (m * m) ≡ b → 0 < k → r * 2 ^ k + spell k m ≡ S → (2 * r + cond b 1 0) * 2 ^ (k - 1) + spell (k - 1) (cond b (m * m / 2 ^ 32) (m * m / 2 ^ 31)) ≡ S
-turn b S k m r e p h =
-    let q : k ≡ suc (k - 1) = omega arith in
-    turn_suc b S (k - 1) m r e (subst (λ (x : ℕ). r * 2 ^ x + spell x m ≡ S) q h)
+pub turn : {n m r i : ℕ} → Spells n m r i → i < 12 → Spells n (m * m / 2 ^ (31 + m * m / 2 ^ 63)) (2 * r + m * m / 2 ^ 63) (i + 1)
+turn {n} {m} {r} {i} h l =
+    let p : 12 - i ≡ suc (12 - (i + 1)) = omega arith in
+    rw (bit_is (m * m) (square_fits h.fits), next_is (m * m))
+    (record { fits = next_fits (m * m) (square_fits h.fits); spells = turn_suc (spell 12 n) (12 - (i + 1)) m r (rw p at h.spells) })
 
--- r stays small
-pub turn_small : (k m r n : ℕ) → r * 2 ^ k + spell k m ≡ spell 12 n → r < 4096
-turn_small k m r n h =
-    let p : r * 1 ≤ r * 2 ^ k = mul-le-mul_left r (pow_pos k) in
-    omega (arith, spell_lt 12 n)
+pub bits_small : {n m r i : ℕ} → Spells n m r i → r < 4096
+bits_small {n} {m} {r} {i} h =
+    let p : r * 1 ≤ r * 2 ^ (12 - i) = mul-le-mul_left r (pow_pos (12 - i)) in
+    omega (arith, h.spells, spell_lt 12 n)
 
-pub turn_end : (k m r S : ℕ) → k ≤ 0 → r * 2 ^ k + spell k m ≡ S → r ≡ S
+pub bits_done : {n m r i : ℕ} → Spells n m r i → 12 ≤ i → r ≡ spell 12 n
 unfolding spell
-turn_end zero m r S p h = omega (arith, mul-one r)
-turn_end (suc k) m r S p h = absurd (omega arith)
+bits_done {i = i} h l = let e : 12 - i ≡ 0 = omega arith in omega (arith, rw e at h.spells)

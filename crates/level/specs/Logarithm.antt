@@ -1,8 +1,6 @@
 -- The level logarithm: METHOD.md, "The level logarithm".
-use Rattle.std.specs.Prelude.{ℕ, zero, suc, ◌+◌, ◌*◌, ◌/◌, ◌^◌, ◌<◌, ◌≤◌, cond, ◌&&◌, ℤ, pos, nat_le}
-use Rattle.std.proofs.Math.Option.{Option, none, some}
-use Rattle.level.specs.declared.Level.{Level}
-use Rattle.level.specs.declared.Level.TheVariants.{At, None}
+use Rattle.std.specs.Prelude.{ℕ, zero, suc, ◌+◌, ◌*◌, ◌/◌, ◌^◌, ◌<◌, ◌≤◌, cond, ◌&&◌, ℤ, pos, nat_le, Option, Some, None}
+use Rattle.level.specs.declared.Steps.{Steps}
 
 -- the highest of the places 0 to k whose power of two is not above n
 unfoldable pub place_up_to : ℕ → ℕ → ℕ
@@ -35,17 +33,17 @@ lev n = 4096 * place n + spell 12 (start n)
 
 -- the level of any n: none for 0 and above 2^80
 unfoldable pub level_of : ℕ → Option ℤ
-level_of n = cond (nat_le 1 n && nat_le n (2 ^ 80)) (some (pos (lev n))) none
+level_of n = cond (nat_le 1 n && nat_le n (2 ^ 80)) (Some (pos (lev n))) None
 
--- what each case of an answer says: a level in steps, or that there is none
-unfoldable pub value_of : Level → Option ℤ
-value_of (At s) = some s.0
-value_of None = none
+-- what an answer says: a level in steps, or that there is none
+unfoldable pub value_of : Option Steps → Option ℤ
+value_of (Some s) = Some s.0
+value_of None = None
 
 -- the steps of an answer. Where there is no level they are 0, which lev(1) is too: a caller that met one could not tell. None does, as the claim's clause
 -- `levels_exist` says of a report
-abbrev pub steps_in : Level → ℤ
-steps_in (At s) = s.0
+abbrev pub steps_in : Option Steps → ℤ
+steps_in (Some s) = s.0
 steps_in None = pos 0
 
 -- the three facts that the meter rests on

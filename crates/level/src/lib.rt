@@ -3,223 +3,203 @@
 // leads from the first three to the last.
 #![tactic(auto)]
 
-mod sums;
+ghost use Rattle.std.specs.Prelude.{◌≡◌, ℕ, ◌^◌, ◌<◌, ◌≤◌, ◌+ℤ◌, ◌-ℤ◌, FitsSigned};
+ghost use Rattle.std.specs.Int.{w64};
+ghost use Rattle.level.specs.Logarithm.{spell, lev, level_of, value_of, steps_in};
+ghost use Rattle.level.specs.Types.{samples_of, hundredths_of, units_of, steps_of, two_words, grown};
 
-ghost use Rattle.std.specs.Prelude.{◌≡◌, ◌+◌, ◌*◌, ◌^◌, ◌<◌, ◌≤◌, nat_lt};
-ghost use Rattle.level.specs.Logarithm.{place_up_to, spell, lev, level_of, value_of, steps_in};
-ghost use Rattle.level.specs.Types.{samples_of, hundredths_of, units_of, steps_of, two_words};
+use std::ops::{Add, Sub};
 
 // The most samples that a measurement may hold.
 pub const MOST_SAMPLES: u64 = 1 << 48;
 
 // A level, or a difference of two, in steps of 1/4096 of a doubling of power.
-#[derive(Clone, Copy)]
+#[derive(Clone, Copy, Debug, PartialEq, Eq, PartialOrd, Ord)]
 pub struct Steps(i64);
 
 // A count of samples.
-#[derive(Clone, Copy)]
+#[derive(Clone, Copy, Debug, PartialEq, Eq, PartialOrd, Ord)]
 pub struct Samples(u64);
 
 // A part of the whole, in hundredths of a percent.
-#[derive(Clone, Copy)]
+#[derive(Clone, Copy, Debug, PartialEq, Eq, PartialOrd, Ord)]
 pub struct Hundredths(u64);
 
 // A threshold, in units of 2^-24 quantizing interval.
-#[derive(Clone, Copy)]
+#[derive(Clone, Copy, Debug, PartialEq, Eq, PartialOrd, Ord)]
 pub struct Units(u64);
 
-// A sum of squares, in two words.
-#[derive(Clone, Copy)]
+// A sum of squares, in two words. The high one comes first, so the order is that of the sums.
+#[derive(Clone, Copy, Debug)]
+#[derive(PartialEq, Eq, PartialOrd, Ord)]
 pub struct Squares {
     pub high: u64,
     pub low: u64,
 }
 
-// What a number has for a level.
-#[derive(Clone, Copy)]
-pub enum Level {
-    At(Steps),
-    None,
+impl From<i64> for Steps {
+    ghost from_gives = { λ x r. r ≡ steps_of x };
+
+    fn from(steps: i64) -> Steps {
+        Steps(steps)
+    }
+}
+
+impl From<Steps> for i64 {
+    ghost from_gives = { λ x r. r ≡ x.0 };
+
+    fn from(steps: Steps) -> i64 {
+        steps.0
+    }
+}
+
+impl Add for Steps {
+    type Output = Steps;
+
+    ghost can_add = { λ x y. FitsSigned w64 (x.0 +ℤ y.0) };
+
+    ghost add_gives = { λ x y r. r ≡ steps_of (x.0 +ℤ y.0) };
+
+    fn add(self, other: Steps) -> Steps {
+        Steps(self.0 + other.0)
+    }
+}
+
+impl Sub for Steps {
+    type Output = Steps;
+
+    ghost can_sub = { λ x y. FitsSigned w64 (x.0 -ℤ y.0) };
+
+    ghost sub_gives = { λ x y r. r ≡ steps_of (x.0 -ℤ y.0) };
+
+    fn sub(self, other: Steps) -> Steps {
+        Steps(self.0 - other.0)
+    }
 }
 
 impl Steps {
-    pub fn of(x: i64) -> Steps
-        ensures { result ≡ steps_of x }
+    // The steps of a level. Where there is none they are 0, as those of 1 are: a caller takes no level
+    // of a number that may have none.
+    pub fn or_zero(level: Option<Steps>) -> Steps
+        ensures { result.0 ≡ steps_in level }
     {
-        Steps(x)
+        level.unwrap_or(Steps(0))
     }
+}
 
-    pub fn value(self) -> i64
-        ensures { result ≡ self.0 }
+impl From<u64> for Samples {
+    ghost from_gives = { λ n r. r ≡ samples_of n };
+
+    fn from(n: u64) -> Samples {
+        Samples(n)
+    }
+}
+
+impl From<u64> for Hundredths {
+    ghost from_gives = { λ n r. r ≡ hundredths_of n };
+
+    fn from(n: u64) -> Hundredths {
+        Hundredths(n)
+    }
+}
+
+impl From<u64> for Units {
+    ghost from_gives = { λ n r. r ≡ units_of n };
+
+    fn from(n: u64) -> Units {
+        Units(n)
+    }
+}
+
+// What has a level by its number.
+pub trait Quantity: Sized {
+    ghost quantity: { Self → ℕ };
+
+    fn number(self) -> u64
+        ensures { result ≡ quantity self };
+
+    // The level of the number.
+    final fn level(self) -> Option<Steps>
+        ensures { value_of result ≡ level_of (quantity self) }
     {
+        lev(self.number().into())
+    }
+}
+
+impl Quantity for Samples {
+    ghost quantity = { λ n. n.0 };
+
+    fn number(self) -> u64 {
         self.0
     }
 }
 
-impl Level {
-    // The steps of a level. Where there is none they are 0, as those of 1 are: a caller takes no level
-    // of a number that may have none.
-    pub fn steps(self) -> Steps
-        ensures { result.0 ≡ steps_in self }
-    {
-        match self {
-            Level::At(steps) => steps,
-            Level::None => Steps(0),
-        }
+impl Quantity for Hundredths {
+    ghost quantity = { λ n. n.0 };
+
+    fn number(self) -> u64 {
+        self.0
+    }
+}
+
+impl Quantity for Units {
+    ghost quantity = { λ n. n.0 };
+
+    fn number(self) -> u64 {
+        self.0
     }
 }
 
 impl Squares {
-    // The level of a sum of squares.
-    pub fn level(self) -> Level
+    pub const ZERO: Squares = Squares { high: 0, low: 0 };
+
+    // With y added. A carry out of the high word is lost.
+    pub fn grown(self, y: u64) -> Squares
+        ensures { result ≡ grown self y }
+    {
+        let (low, carry) = self.low.overflowing_add(y);
+        Squares {
+            high: self.high.wrapping_add(carry.into()),
+            low,
+        }
+    }
+
+    // The level of the sum.
+    pub fn level(self) -> Option<Steps>
         ensures { value_of result ≡ level_of (two_words self) }
     {
-        let high = self.high;
-        let low = self.low;
-        lev(high, low)
+        lev((u128::from(self.high) << 64) + u128::from(self.low))
     }
 }
 
-impl Samples {
-    pub fn of(n: u64) -> Samples
-        ensures { result ≡ samples_of n }
-    {
-        Samples(n)
-    }
+// The largest number that has a level.
+const MOST: u128 = 1 << 80;
 
-    pub fn count(self) -> u64
-        ensures { result ≡ self.0 }
-    {
-        self.0
-    }
-
-    // The level of a count.
-    pub fn level(self) -> Level
-        ensures { value_of result ≡ level_of self.0 }
-    {
-        word_level(self.0)
-    }
-}
-
-impl Hundredths {
-    pub fn of(n: u64) -> Hundredths
-        ensures { result ≡ hundredths_of n }
-    {
-        Hundredths(n)
-    }
-
-    pub fn number(self) -> u64
-        ensures { result ≡ self.0 }
-    {
-        self.0
-    }
-
-    // The level of their number.
-    pub fn level(self) -> Level
-        ensures { value_of result ≡ level_of self.0 }
-    {
-        word_level(self.0)
-    }
-}
-
-impl Units {
-    pub fn of(n: u64) -> Units
-        ensures { result ≡ units_of n }
-    {
-        Units(n)
-    }
-
-    // The level of their number.
-    pub fn level(self) -> Level
-        ensures { value_of result ≡ level_of self.0 }
-    {
-        word_level(self.0)
-    }
-}
-
-// The level of a word.
-fn word_level(n: u64) -> Level
+// The level of a number.
+fn lev(n: u128) -> Option<Steps>
     ensures { value_of result ≡ level_of n }
 {
-    lev(0, n)
-}
-
-// The level of the number high * 2^64 + low.
-fn lev(high: u64, low: u64) -> Level
-    ensures { value_of result ≡ level_of (high * 2 ^ 64 + low) }
-{
-    if above_range(high, low) {
-        return Level::None;
+    if n == 0 || n > MOST {
+        return None;
     }
-    if 0 < high {
-        let steps = two_words(high, low) as i64;
-        return Level::At(Steps(steps));
-    }
-    if 0 < low {
-        let steps = one_word(low) as i64;
-        return Level::At(Steps(steps));
-    }
-    Level::None
-}
-
-// Whether the number is above 2^80.
-fn above_range(high: u64, low: u64) -> bool
-    ensures { result ≡ nat_lt (2 ^ 80) (high * 2 ^ 64 + low) }
-{
-    if high == 65536 {
-        return 0 < low;
-    }
-    65536 < high
-}
-
-// The level of a number of one word.
-fn one_word(low: u64) -> u64
-    requires { 0 < low }
-    ensures { (result ≡ lev low) × (result < 2 ^ 20) }
-{
-    let b = top_place(low);
-    let m = (low << (63 - b)) >> 32;
-    4096 * b + twelve_bits(m)
-}
-
-// The level of a number of two words.
-fn two_words(high: u64, low: u64) -> u64
-    requires { (0 < high) × (high * 2 ^ 64 + low ≤ 2 ^ 80) }
-    ensures { (result ≡ lev (high * 2 ^ 64 + low)) × (result < 2 ^ 20) }
-{
-    let j = top_place(high);
-    let m = ((high << (63 - j)) + (low >> (j + 1))) >> 32;
-    4096 * (64 + j) + twelve_bits(m)
-}
-
-// The place of the highest one bit of a word, the lowest place being 0; 0 for the word 0.
-fn top_place(word: u64) -> u64
-    ensures { result ≡ place_up_to 63 word }
-{
-    if word == 0 {
-        return 0;
-    }
-    63 - u64::leading_zeros(word) as u64
+    let place = n.ilog2();
+    let m = (n << 31) >> place;
+    Some(Steps(i64::from(4096 * place + twelve_bits(m as u32))))
 }
 
 // The number that twelve squarings of m spell, a bit each, the first bit highest.
-fn twelve_bits(start: u64) -> u64
-    requires { start < 2 ^ 32 }
-    ensures { (result ≡ spell 12 start) × (result < 4096) }
+#[tactic(auto, using(crate::proofs::Squarings::bits_small, crate::proofs::Squarings::bits_done))]
+fn twelve_bits(start: u32) -> u32
+    ensures value { result ≡ spell 12 start }
+    ensures bound { result < 4096 }
 {
-    let mut m = start;
-    let mut bits: u64 = 0;
-    let mut left: u64 = 12;
-    while 0 < left {
-        left -= 1;
-        let t = m * m;
-        if t >= 0x8000_0000_0000_0000 {
-            bits = 2 * bits + 1;
-            m = t >> 32;
-        } else {
-            bits = 2 * bits;
-            m = t >> 31;
-        }
+    let mut m = u64::from(start);
+    let mut bits = 0;
+    for _ in 0..12u32 {
+        let square = m * m;
+        let bit = square >> 63;
+        bits = 2 * bits + bit as u32;
+        m = square >> (31 + bit);
     }
     bits
 }

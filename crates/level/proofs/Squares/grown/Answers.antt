@@ -7,7 +7,8 @@ use Rattle.level.proofs.Squares.grown.Goals as goal
 pub returns : goal.returns
 unfolding grown
 returns c =
-    let r = c.wrapping_add_u64-low.ensures.value in
+    let q = c.args.self in
+    let s = c.overflowing_add-low in
     ap₂ (λ (h l : ℕ). record { high = h; low = l })
-    (c.wrapping_add_u64.ensures.value ∙ ap (λ (n : ℕ). (c.args.self.high + n) % 2 ^ 64) (carry c.args.self.low c.args.y _ (search rules) c.ranges.y.fits r))
-    r
+    (ap (λ (n : ℕ). (q.high + n) % 2 ^ 64) (c.into.ensures ∙ carry q.low c.args.y s.result.1 (search rules) c.ranges.y.fits s.ensures.overflow))
+    s.ensures.value
