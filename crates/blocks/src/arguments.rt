@@ -1,71 +1,46 @@
 // The words of the command line.
 use std::env::FillError;
+use std::num::NonZeroU32;
 use std::rt::Env;
 
 // The rate code, and k: every k-th sample is taken.
 #[derive(Clone, Copy)]
 pub struct Asked {
     pub code: u32,
-    pub k: u32,
+    pub k: NonZeroU32,
 }
 
-#[derive(Clone, Copy)]
-pub enum Words {
-    Good(Asked),
-    Bad,
+impl Asked {
+    // What the command line asks, where its words are good.
+    pub fn read(rt: HostRuntime) -> Option<Asked> {
+        if input::has_word(rt, 3) {
+            return None;
+        }
+        let code = word(rt, 1)?.get();
+        let k = word(rt, 2)?;
+        rate::is_named(code).then_some(Asked { code, k })
+    }
 }
 
-pub fn read(rt: HostRuntime) -> Words {
-    if input::has_word(rt, 3) {
-        return Words::Bad;
-    }
-    let code = word(rt, 1);
-    let k = word(rt, 2);
-    if !rate::is_named(code) {
-        return Words::Bad;
-    }
-    if k == 0 {
-        return Words::Bad;
-    }
-    Words::Good(Asked { code, k })
-}
-
-// The number that a word is: 1 where there is no such word. 0, which neither word may be, stands for one
-// that is no number or is longer than 32 bytes.
-fn word(rt: HostRuntime, i: usize) -> u32 {
-    let mut digits = [0u8; 32];
+// The number that a word of at most 32 bytes is: 1 where there is no such word.
+fn word(rt: HostRuntime, i: usize) -> Option<NonZeroU32> {
+    let mut digits = [0; 32];
     match rt.arg(i, &mut digits) {
         Ok(length) => decimal(&digits[..length]),
-        Err(FillError::NotPresent) => 1,
-        Err(FillError::TooLong) => 0,
+        Err(FillError::NotPresent) => Some(NonZeroU32::MIN),
+        Err(FillError::TooLong) => None,
     }
 }
 
-// The number of some digits, from 1 to 999999999; else 0, and so where one of the bytes is no digit.
-fn decimal(digits: &[u8]) -> u32 {
+// The largest number that a word may be.
+const MOST: u32 = 999999999;
+
+// The number of some digits, from 1 to the largest.
+fn decimal(digits: &[u8]) -> Option<NonZeroU32> {
     let mut number: u32 = 0;
-    let mut i = 0;
-    while i < digits.len() {
-        let digit = value(digits[i]);
-        if 9 < digit {
-            return 0;
-        }
-        if 99999999 < number {
-            return 0;
-        }
-        number = 10 * number + digit;
-        i += 1;
+    for &byte in digits {
+        let digit = char::from(byte).to_digit(10)?;
+        number = number.checked_mul(10)?.checked_add(digit)?;
     }
-    number
-}
-
-// The value of a digit; 10 for any other byte.
-fn value(byte: u8) -> u32 {
-    if byte < b'0' {
-        return 10;
-    }
-    if b'9' < byte {
-        return 10;
-    }
-    (byte - b'0') as u32
+    NonZeroU32::new(number).filter(|number| number.get() <= MOST)
 }

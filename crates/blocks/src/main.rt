@@ -14,45 +14,19 @@ mod arguments;
 mod packing;
 mod taking;
 
-use arguments::{Asked, Words};
+use arguments::Asked;
 use packing::Packing;
 
 fn main(rt: HostRuntime) {
-    let words = arguments::read(rt);
-    match words {
-        Words::Good(asked) => {
-            // One read has 16384 samples at most. With 247 in hand they fill 67 blocks, for which the
-            // page has room, so that what one read fills is one write.
-            let mut bytes = [0u8; 32768];
-            let mut samples = [0i16; 248];
-            let mut blocks = [0u8; 34304];
-            let all = packed(rt, asked, &mut bytes, &mut samples, &mut blocks);
-            packing::closed(asked.code, all, &samples, &mut blocks);
+    match Asked::read(rt) {
+        Some(asked) => {
+            let mut packing = Packing::new(rt, asked);
+            packing.run();
+            packing.close();
         }
-        Words::Bad => page::told(
+        None => page::told(
             &rt.stderr(),
-            b"blocks takes at most two words, a rate code from 1 to 5 and a number k from 1 to 999999999: it reads signed samples of two bytes, the low byte first, from standard input, and writes sample blocks of the first of them and every k-th after it\n",
+            "blocks takes at most two words, a rate code from 1 to 5 and a number k from 1 to 999999999: it reads signed samples of two bytes, the low byte first, from standard input, and writes sample blocks of the first of them and every k-th after it\n",
         ),
     }
-}
-
-// Packs the whole input, but for the samples of the last block, which are then in hand. No input has so
-// many turns as are counted: the count is there to show that the loop ends.
-fn packed(
-    rt: HostRuntime,
-    asked: Asked,
-    bytes: &mut [u8],
-    samples: &mut [i16],
-    blocks: &mut [u8],
-) -> Packing {
-    let mut all = Packing::new(rt);
-    let mut turns: u64 = 0;
-    while turns < u64::MAX {
-        all = packing::turn(asked, all, bytes, samples, blocks);
-        if !all.more {
-            return all;
-        }
-        turns += 1;
-    }
-    all
 }

@@ -1,148 +1,76 @@
 // Packing the samples taken into blocks, which wait on a page to be written.
 use crate::arguments::Asked;
-use crate::taking;
 use crate::taking::Taking;
 use input::Streams;
-use refusal::Answer;
+use refusal::Refusal;
 
-// Which sample is taken next and how many are in hand, how many are in blocks, what is read and written,
-// and whether there can be more.
-#[derive(Clone, Copy)]
+// The rate code of the blocks, which samples are taken, how many are in blocks, and what is read and
+// written. One read has 16384 samples at most. With 247 in hand they fill 67 blocks, for which the page
+// has room, so that what one read fills is one write.
+#[derive(Drop)]
 pub struct Packing {
-    pub taking: Taking,
-    pub before: u64,
-    pub streams: Streams,
-    pub more: bool,
+    code: u32,
+    taking: Taking,
+    before: u64,
+    streams: Streams<32768, 34304>,
 }
 
 impl Packing {
     // Before the first sample.
-    pub fn new(rt: HostRuntime) -> Packing {
+    pub fn new(rt: HostRuntime, asked: Asked) -> Packing {
         Packing {
-            taking: Taking { skip: 0, count: 0 },
+            code: asked.code,
+            taking: Taking::new(asked),
             before: 0,
             streams: Streams::new(rt),
-            more: true,
         }
     }
-}
 
-// The packing with a piece of the input more, as much as fits the block at hand. Where no whole sample
-// is ahead, no more can be read, or a write failed.
-pub fn turn(
-    asked: Asked,
-    all: Packing,
-    bytes: &mut [u8],
-    samples: &mut [i16],
-    blocks: &mut [u8],
-) -> Packing {
-    let taking = all.taking;
-    let before = all.before;
-    let waiting = all.streams;
-    let streams = waiting.ready(bytes, blocks, 2);
-    let source = streams.source;
-    if source.unused() < 2 {
-        return Packing {
-            taking,
-            before,
-            streams,
-            more: false,
-        };
-    }
-    taken(asked, taking, before, streams, bytes, samples, blocks)
-}
-
-// The packing with the samples ahead, and with the block at hand where it is full.
-fn taken(
-    asked: Asked,
-    taking: Taking,
-    before: u64,
-    streams: Streams,
-    bytes: &[u8],
-    samples: &mut [i16],
-    blocks: &mut [u8],
-) -> Packing {
-    let source = streams.source;
-    let piece = input::ahead(bytes, source, bytes.len());
-    let taken = taking::picked(piece, asked.k, samples, taking);
-    let taking = taken.taking;
-    let streams = streams.used(taken.used);
-    if taking.count < samples.len() {
-        return Packing {
-            taking,
-            before,
-            streams,
-            more: true,
-        };
-    }
-    made(asked.code, before, streams, taking.skip, samples, blocks)
-}
-
-// The packing with a block more, of samples behind so many others. One that would end above 2^48 is not
-// made, and nothing comes after it; so the number of samples in blocks never wraps.
-fn made(
-    code: u32,
-    before: u64,
-    streams: Streams,
-    skip: usize,
-    samples: &[i16],
-    blocks: &mut [u8],
-) -> Packing {
-    let mut block = [0u8; 512];
-    let answer = block::write(code, before, samples, &mut block);
-    let taking = Taking { skip, count: 0 };
-    match answer {
-        Answer::Accepted => Packing {
-            taking,
-            before: before.wrapping_add(samples.len() as u64),
-            streams: streams.put(blocks, &block),
-            more: true,
-        },
-        Answer::Refused(_) => {
-            streams.told(b"blocks: no block may end above 2^48 samples\n");
-            Packing {
-                taking,
-                before,
-                streams,
-                more: false,
+    // Packs the whole input, but for the samples of the last block, which are then in hand. No input has
+    // so many turns as are counted: the count is there to show that the loop ends.
+    pub fn run(&mut self) {
+        for _ in 0..u64::MAX {
+            self.streams.ready(2);
+            if self.streams.unused() < 2 {
+                return;
+            }
+            let done = self.taking.take(self.streams.ahead(usize::MAX));
+            self.streams.skip(done);
+            if self.taking.samples.is_full() && self.pack().is_err() {
+                return;
             }
         }
     }
-}
 
-// Packs the samples in hand, writes all that waits, and says what was wrong with the input or failed.
-pub fn closed(code: u32, all: Packing, samples: &[i16], blocks: &mut [u8]) {
-    let streams = rest(code, all, samples, blocks);
-    let source = streams.source;
-    streams.closed(blocks, b"blocks");
-    if source.has_ended() {
-        if source.unused() != 0 {
-            odd(streams, source.read);
+    // Makes a block of the samples in hand. One that would end above 2^48 is not made, and nothing comes
+    // after it; so the number of samples in blocks never wraps.
+    fn pack(&mut self) -> Result<(), Refusal> {
+        let mut block = [0; 512];
+        let made = block::write(self.code, self.before, &self.taking.samples, &mut block);
+        match made {
+            Ok(()) => {
+                self.before = self.before.wrapping_add(self.taking.samples.len() as u64);
+                self.streams.put(&block);
+            }
+            Err(_) => self
+                .streams
+                .told("blocks: no block may end above 2^48 samples\n"),
+        }
+        self.taking.samples.clear();
+        made
+    }
+
+    // Packs the samples in hand, writes all that waits, and says what was wrong with the input or failed.
+    pub fn close(&mut self) {
+        if !self.taking.samples.is_empty() {
+            let _ = self.pack();
+        }
+        self.streams.closed("blocks");
+        if self.streams.has_ended() && self.streams.unused() != 0 {
+            let bytes = self.streams.read();
+            self.streams.told(format_args!(
+                "blocks: the input ends inside a sample: of its {bytes} bytes the last is left out\n"
+            ));
         }
     }
-}
-
-// The input has so many bytes, an odd number.
-fn odd(streams: Streams, bytes: u64) {
-    let mut line = [0u8; 128];
-    let used = page::words(
-        &mut line,
-        0,
-        b"blocks: the input ends inside a sample: of its",
-    );
-    let used = page::spaced(&mut line, used, bytes);
-    let used = page::words(&mut line, used, b" bytes the last is left out\n");
-    streams.told(page::filled(&line, used));
-}
-
-// The streams with the last block, where samples are in hand.
-fn rest(code: u32, all: Packing, samples: &[i16], blocks: &mut [u8]) -> Streams {
-    let taking = all.taking;
-    let streams = all.streams;
-    let count = coding::least(taking.count, samples.len());
-    if count == 0 {
-        return streams;
-    }
-    let last = made(code, all.before, streams, 0, &samples[0..count], blocks);
-    last.streams
 }
