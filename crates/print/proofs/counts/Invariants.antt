@@ -1,6 +1,0 @@
--- The counts that are still to be put fall.
-use Rattle.std.proofs.Common.{◌-◌}
-use Rattle.print.proofs.counts.Given as goal
-
-abbrev pub decreases-loop-j : goal.decreases-loop-j
-decreases-loop-j l = l.many - l.j
