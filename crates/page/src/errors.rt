@@ -1,4 +1,5 @@
 // The errors of the system that the programs can meet, by their numbers on Linux.
+use std::error::Error;
 use std::{fmt, io};
 
 const EINTR: i32 = 4;
@@ -54,3 +55,5 @@ impl fmt::Display for SystemError {
         write!(f, "error {}{}", self.0, self.meaning())
     }
 }
+
+impl Error for SystemError {}

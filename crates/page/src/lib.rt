@@ -7,6 +7,6 @@ mod sending;
 mod tries;
 
 pub use errors::SystemError;
-pub use page::Page;
-pub use sending::{sent, told};
+pub use page::{Page, told};
+pub use sending::sent;
 pub use tries::Tries;

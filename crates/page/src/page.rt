@@ -65,9 +65,16 @@ impl<const N: usize> Page<N> {
 // Text goes behind what waits, as far as there is room.
 impl<const N: usize> Write for Page<N> {
     fn write_str(&mut self, text: &str) -> fmt::Result {
-        match self.waiting.try_extend_from_slice(text.as_bytes()) {
-            Ok(()) => Ok(()),
-            Err(_) => Err(fmt::Error),
-        }
+        self.waiting
+            .try_extend_from_slice(text.as_bytes())
+            .map_err(|_| fmt::Error)
     }
+}
+
+// Says a line of at most 512 bytes on standard error, by one write. Where that fails there is nowhere to
+// say so.
+pub fn told<P: Print, D: Display + Drop>(to: &P, line: D) {
+    let mut page = Page::<512>::new();
+    page.print(to, line);
+    page.write_out(to);
 }

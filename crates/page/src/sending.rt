@@ -1,7 +1,5 @@
-// Writing bytes and lines at once.
+// Writing bytes at once.
 use crate::{SystemError, Tries};
-use arrayvec::ArrayString;
-use std::fmt::{Display, Write};
 use std::io;
 use std::io::ErrorKind;
 
@@ -17,11 +15,4 @@ pub fn sent<P: Print>(to: &P, bytes: &[u8]) -> Result<(), SystemError> {
         }
     }
     Ok(())
-}
-
-// Says a line of at most 512 bytes on standard error. Where that fails there is nowhere to say so.
-pub fn told<P: Print, D: Display + Drop>(to: &P, line: D) {
-    let mut text = ArrayString::<512>::new();
-    let _ = write!(text, "{line}");
-    let _ = sent(to, text.as_str().as_bytes());
 }
