@@ -1,14 +1,15 @@
 -- Lists made from a function: what stands at each place.
-use mathlib.Core.Bool.{Bool, true, false}
 use mathlib.Core.List.{List, [], ◌∷◌, ◌++◌}
+use mathlib.Core.Logic.{⊎_elim}
 use mathlib.Core.Path.{◌≡◌, refl, sym, ap, ap₂, ◌∙◌}
 use Prim.Native.Nat.{ℕ, zero, suc, ◌+◌, ◌-◌, ◌≤◌, ◌<◌}
 use native.Mathlib.Nat.{add-zero, le_of_suc-le-suc, not-suc-le-zero, zero-add}
 use native.Mathlib.Omega.{arith}
-use borrow.Author.Tests.{eqb-true, eqb-false, lt-ltb, le-ltb, ltb-true, ltb-false}
-use lib.Dec.{eqb, ltb}
-use lib.ListN.{length, get_or, set, replicate, length-set, length-append, length-replicate, get_or-eq_default}
+use borrow.Author.Tests.{lt-ltb, le-ltb}
+use lib.ListN.{length, get_or, set, take, drop, replicate, length-set, length-drop, length-append, length-replicate, get_or-eq_default}
 use lib.Seq.{get_or-set_same, get_or-set_other}
+use Rattle.std.proofs.lemmas.Bool.{cases_lt, cases_eq}
+use Rattle.std.proofs.lemmas.List.{take_all, get_or_append_left, get_or-append_right, get_or-replicate}
 use Rattle.thresholds.specs.Places.{list_from, each, up_to}
 
 pub list_length : {A : Type 0} (f : ℕ → A) (j k : ℕ) → length (list_from f j k) ≡ k
@@ -46,13 +47,13 @@ list_is d (x ∷ l) f j (suc k) e g =
 pub is_each : {A : Type 0} (d : A) (k : ℕ) (l : List A) (f : ℕ → A) → k ≡ length l → ((i : ℕ) → i < k → get_or l i d ≡ f i) → l ≡ each k f
 is_each d k l f e g = list_is d l f 0 k (sym e) (λ i h. g i h ∙ ap f (sym (zero-add i)))
 
+-- what stands from place k to the end of n places, as a slice has it
+pub tail_is : {A : Type 0} (n k : ℕ) (l : List A) → length l ≡ n → take (n - k) (drop k l) ≡ drop k l
+tail_is n k l e = take_all (n - k) (drop k l) (omega (arith, length-drop k l))
+
 -- past its end a list reads 0
 pub at_or_past : (l : List ℕ) (k b : ℕ) → length l ≡ k → ((j : ℕ) → j < k → get_or l j 0 ≤ b) → (j : ℕ) → get_or l j 0 ≤ b
-at_or_past l k b e f j = go (ltb j k) refl
-  where
-    go : (t : Bool) → ltb j k ≡ t → get_or l j 0 ≤ b
-    go true h = f j (ltb-true j k h)
-    go false h = let past : length l ≤ j = omega (arith, ltb-false j k h) in omega (arith, get_or-eq_default l 0 past)
+at_or_past l k b e f j = ⊎_elim (f j) (λ h. let past : length l ≤ j = omega arith in omega (arith, get_or-eq_default l 0 past)) (cases_lt j k)
 
 -- ---- what stands in the first k places
 
@@ -65,11 +66,8 @@ unfolding up_to
 up_to_past k f j l = rw (le-ltb j k l)
 
 pub up_to_same : (k : ℕ) (f g : ℕ → ℕ) → ((i : ℕ) → i < k → f i ≡ g i) → (j : ℕ) → up_to k f j ≡ up_to k g j
-up_to_same k f g e j = go (ltb j k) refl
-  where
-    go : (t : Bool) → ltb j k ≡ t → up_to k f j ≡ up_to k g j
-    go true h = let l = ltb-true j k h in up_to_at k f j l ∙ e j l ∙ sym (up_to_at k g j l)
-    go false h = let l = ltb-false j k h in up_to_past k f j l ∙ sym (up_to_past k g j l)
+up_to_same k f g e j =
+    ⊎_elim (λ h. up_to_at k f j h ∙ e j h ∙ sym (up_to_at k g j h)) (λ h. up_to_past k f j h ∙ sym (up_to_past k g j h)) (cases_lt j k)
 
 pub filled_same : (n k : ℕ) (f g : ℕ → ℕ) → ((i : ℕ) → i < k → f i ≡ g i) → each n (up_to k f) ≡ each n (up_to k g)
 filled_same n k f g e = each_same n _ _ (λ j l. up_to_same k f g e j)
@@ -78,50 +76,42 @@ pub filled_at : (n k : ℕ) (f : ℕ → ℕ) (j : ℕ) → k ≤ n → j < k �
 filled_at n k f j m l = each_at 0 n (up_to k f) j (omega arith) ∙ up_to_at k f j l
 
 pub is_filled_lem : (n k : ℕ) (l : List ℕ) (f : ℕ → ℕ) → n ≡ length l → ((i : ℕ) → i < k → get_or l i 0 ≡ f i) → ((i : ℕ) → k ≤ i → get_or l i 0 ≡ 0) → l ≡ each n (up_to k f)
-is_filled_lem n k l f e g z = is_each 0 n l (up_to k f) e (λ i h. go i (ltb i k) refl)
-  where
-    go : (i : ℕ) (t : Bool) → ltb i k ≡ t → get_or l i 0 ≡ up_to k f i
-    go i true h = let b = ltb-true i k h in g i b ∙ sym (up_to_at k f i b)
-    go i false h = let b = ltb-false i k h in z i b ∙ sym (up_to_past k f i b)
+is_filled_lem n k l f e g z =
+    is_each 0 n l (up_to k f) e (λ i h. ⊎_elim (λ b. g i b ∙ sym (up_to_at k f i b)) (λ b. z i b ∙ sym (up_to_past k f i b)) (cases_lt i k))
 
 -- a number k times, and zeros
-repeated_at : (k i x : ℕ) (l : List ℕ) → i < k → get_or (replicate k x ++ l) i 0 ≡ x
-repeated_at zero i x l h = absurd (not-suc-le-zero h)
-repeated_at (suc k) zero x l h = refl
-repeated_at (suc k) (suc i) x l h = repeated_at k i x l (le_of_suc-le-suc h)
-
 zeros_at : (k i : ℕ) → get_or {A = ℕ} (replicate k 0) i 0 ≡ 0
 zeros_at zero i = refl
 zeros_at (suc k) zero = refl
 zeros_at (suc k) (suc i) = zeros_at k i
 
-repeated_past : (k i m x : ℕ) → k ≤ i → get_or {A = ℕ} (replicate k x ++ replicate m 0) i 0 ≡ 0
-repeated_past zero i m x h = zeros_at m i
-repeated_past (suc k) zero m x h = absurd (not-suc-le-zero h)
-repeated_past (suc k) (suc i) m x h = repeated_past k i m x (le_of_suc-le-suc h)
-
 pub filled_with : (n k x : ℕ) → k ≤ n → each n (up_to k (λ j. x)) ≡ replicate k x ++ replicate (n - k) 0
 filled_with n k x m =
-    sym (is_filled_lem n k (replicate k x ++ replicate (n - k) 0) (λ j. x)
-    (omega (arith, length-append (replicate k x) (replicate (n - k) 0), length-replicate k x, length-replicate {A = ℕ} (n - k) 0))
-    (λ i h. repeated_at k i x _ h) (λ i h. repeated_past k i (n - k) x h))
+    let a : List ℕ = replicate k x in
+    let b : List ℕ = replicate (n - k) 0 in
+    let e : length a ≡ k = length-replicate k x in
+    sym (is_filled_lem n k (a ++ b) (λ j. x) (omega (arith, e, length-append a b, length-replicate {A = ℕ} (n - k) 0))
+    (λ i h. get_or_append_left a b 0 i (omega (arith, e)) ∙ get_or-replicate k i x 0 h) (λ i h. get_or-append_right a b k i 0 e h ∙ zeros_at (n - k) (i - k)))
 
-same_but_one : (f : ℕ → ℕ) (i j : ℕ) → (i ≡ j → ⊥) → (t : Bool) → ltb i j ≡ t → up_to j f i ≡ up_to (j + 1) f i
-same_but_one f i j q true t = let k = ltb-true i j t in up_to_at j f i k ∙ sym (up_to_at (j + 1) f i (omega arith))
-same_but_one f i j q false t = let k = ltb-false i j t in up_to_past j f i k ∙ sym (up_to_past (j + 1) f i (omega (arith, q)))
+same_but_one : (f : ℕ → ℕ) (i j : ℕ) → (i ≡ j → ⊥) → up_to j f i ≡ up_to (j + 1) f i
+same_but_one f i j q =
+    ⊎_elim (λ k. up_to_at j f i k ∙ sym (up_to_at (j + 1) f i (omega arith))) (λ k. up_to_past j f i k ∙ sym (up_to_past (j + 1) f i (omega (arith, q)))) (cases_lt i j)
 
 -- one place more
 pub one_place : (n : ℕ) (f : ℕ → ℕ) (j v : ℕ) → j < n → v ≡ f j → set (each n (up_to j f)) j v ≡ each n (up_to (j + 1) f)
 one_place n f j v l e =
-    let old = each n (up_to j f) in
-    is_each 0 n (set old j v) (up_to (j + 1) f) (sym (list_length (up_to j f) 0 n) ∙ sym (length-set old j v)) (λ i h. go i h (eqb i j) refl)
+    is_each 0 n (set old j v) (up_to (j + 1) f) (sym len ∙ sym (length-set old j v)) (λ i h. ⊎_elim (same i) (other i h) (cases_eq i j))
   where
-    go : (i : ℕ) → i < n → (t : Bool) → eqb i j ≡ t → get_or (set (each n (up_to j f)) j v) i 0 ≡ up_to (j + 1) f i
-    go i h true b =
-        let p = eqb-true i j b in
-        ap (λ (x : ℕ). get_or (set (each n (up_to j f)) j v) x 0) p
-        ∙ get_or-set_same (each n (up_to j f)) j v 0 (omega (arith, list_length (up_to j f) 0 n))
+    old : List ℕ
+    old = each n (up_to j f)
+
+    len : length old ≡ n
+    len = list_length (up_to j f) 0 n
+
+    same : (i : ℕ) → i ≡ j → get_or (set old j v) i 0 ≡ up_to (j + 1) f i
+    same i p =
+        ap (λ (x : ℕ). get_or (set old j v) x 0) p ∙ get_or-set_same old j v 0 (omega (arith, len))
         ∙ e ∙ sym (up_to_at (j + 1) f j (omega arith)) ∙ ap (up_to (j + 1) f) (sym p)
-    go i h false b =
-        let q = eqb-false i j b in
-        get_or-set_other (each n (up_to j f)) j i v 0 q ∙ each_at 0 n (up_to j f) i h ∙ same_but_one f i j q (ltb i j) refl
+
+    other : (i : ℕ) → i < n → (i ≡ j → ⊥) → get_or (set old j v) i 0 ≡ up_to (j + 1) f i
+    other i h q = get_or-set_other old j i v 0 q ∙ each_at 0 n (up_to j f) i h ∙ same_but_one f i j q
