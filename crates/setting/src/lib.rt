@@ -34,7 +34,7 @@ impl Setting {
         Setting {
             code,
             offset: 0,
-            margin: Steps::of(USUAL_MARGIN),
+            margin: USUAL_MARGIN.into(),
             thresholds: Thresholds::built_in(),
         }
     }
@@ -46,7 +46,7 @@ impl Setting {
         Setting {
             code: 0,
             offset: 0,
-            margin: Steps::of(0),
+            margin: 0.into(),
             thresholds: Thresholds::none(),
         }
     }

@@ -17,15 +17,12 @@ const MARKED_BELOW: i64 = 20955;
 pub fn wrong_margin(margin: Steps) -> bool
     ensures { result ≡ wrong_margin margin.0 }
 {
-    if margin.value() < LEAST {
-        return true;
-    }
-    LARGEST < margin.value()
+    !(LEAST..=LARGEST).contains(&margin.into())
 }
 
 // Whether a margin is marked.
 pub fn marked_margin(margin: Steps) -> bool
     ensures { result ≡ is_marked margin.0 }
 {
-    margin.value() < MARKED_BELOW
+    i64::from(margin) < MARKED_BELOW
 }
