@@ -1,14 +1,13 @@
 -- What T is, and its laws: it is the one number that has its property while no larger one has it, or 0; it never falls as the factor grows; it is
 -- 10000 exactly where the factor is not below 0. Of lev these rest on its first fact alone.
-use mathlib.Core.Bool.{true, false, true≢false}
+use mathlib.Core.Bool.{true, false}
 use mathlib.Core.Logic.{◌↔◌}
 use mathlib.Core.Path.{◌≡◌, sym, ap, ◌∙◌}
 use Prim.Native.Nat.{ℕ, ◌+◌, ◌≤◌, ◌<◌}
 use native.Mathlib.Omega.{arith}
-use borrow.Author.Tests.{le-ltb}
-use lib.IntN.{ℤ, pos, negsuc, ◌-ℤ◌}
+use lib.IntN.{ℤ, pos, ◌-ℤ◌}
 use lib.Signed.{lt_z, le_z}
-use Rattle.signed.proofs.Order.{AtMost, at_most, at_most_test, at_most_less, at_most_more, above}
+use Rattle.std.proofs.lemmas.Int.{ints}
 use Rattle.level.specs.Logarithm.{lev}
 use Rattle.level.proofs.Laws.{facts}
 use Rattle.percent.specs.Percent.{whole, not_above, percent_of, IsPercent}
@@ -16,16 +15,9 @@ use Rattle.percent.proofs.Largest.{Falls, largest_of, grows, only, by_neighbours
 
 -- ---- the property
 
-not_above_is : (F : ℤ) (T : ℕ) → not_above F T ≡ true → AtMost (lev T) (lev whole) F
-unfolding not_above
-not_above_is F T e = at_most (lev T) (lev whole) F e
-
-is_not_above : (F : ℤ) (T : ℕ) → AtMost (lev T) (lev whole) F → not_above F T ≡ true
-unfolding not_above
-is_not_above F T h = at_most_test (lev T) (lev whole) F h
-
 pub falls : (F : ℤ) → Falls (not_above F) whole
-falls F T U h l u e = is_not_above F T (at_most_less (lev T) (lev U) (lev whole) F (facts.never_falls T U h l (omega arith)) (not_above_is F U e))
+unfolding not_above
+falls F T U h l u e = let p : lev T ≤ lev U = facts.never_falls T U h l (omega arith) in grind (arith, ints)
 
 -- ---- what T is
 
@@ -44,27 +36,29 @@ percent_at F T r h n = percent_only F (by_neighbours (falls F) T r h n)
 
 -- a larger factor never has a smaller percentage
 pub never_smaller : (F G : ℤ) {T U : ℕ} → le_z F G ≡ true → IsPercent F T → IsPercent G U → T ≤ U
-never_smaller F G l L M = grows (λ i h u e. is_not_above G i (at_most_more (lev i) (lev whole) F G l (not_above_is F i e))) L M
+unfolding not_above
+never_smaller F G l L M = grows (λ i h u e. grind (arith, ints)) L M
 
 -- T is at most 10000, and 10000 exactly where F is not below 0
 pub at_most_whole : (F : ℤ) → percent_of F ≤ whole
 at_most_whole F = (percent_is F).at_most
 
-not_below_zero : (F : ℤ) (l : ℕ) → AtMost l l F → lt_z F (pos 0) ≡ false
-not_below_zero (pos n) l h = le-ltb n 0 (omega arith)
-not_below_zero (negsuc n) l h = absurd (omega arith)
-
-itself : (F : ℤ) (l : ℕ) → lt_z F (pos 0) ≡ false → AtMost l l F
-itself (pos n) l e = omega arith
-itself (negsuc n) l e = absurd (true≢false e)
-
 pub whole_from_zero : (F : ℤ) → (percent_of F ≡ whole) ↔ (lt_z F (pos 0) ≡ false)
-whole_from_zero F = (λ e. not_below_zero F (lev whole) (not_above_is F whole (holds_at e)), λ e. percent_at F whole (omega arith) (λ h. is_not_above F whole (itself F (lev whole) e)) (λ h. absurd (omega arith)))
+unfolding not_above
+whole_from_zero F = (λ e. not_below_zero (holds_at e), λ e. percent_at F whole (omega arith) (λ h. holds e) (λ h. absurd (omega arith)))
   where
+    not_below_zero : not_above F whole ≡ true → lt_z F (pos 0) ≡ false
+    not_below_zero h = grind (arith, ints)
+
+    holds : lt_z F (pos 0) ≡ false → not_above F whole ≡ true
+    holds e = grind (arith, ints)
+
     holds_at : percent_of F ≡ whole → not_above F whole ≡ true
     holds_at e = ap (not_above F) (sym e) ∙ (percent_is F).holds (omega arith)
 
 -- where T is below 10000, F is below lev(T + 1) − lev(10000)
 pub below_next : (F : ℤ) → percent_of F < whole → lt_z F (pos (lev (percent_of F + 1)) -ℤ pos (lev whole)) ≡ true
 unfolding not_above
-below_next F h = above _ F ((percent_is F).none_larger (percent_of F + 1) (omega arith) (omega arith))
+below_next F h =
+    let e : not_above F (percent_of F + 1) ≡ false = (percent_is F).none_larger (percent_of F + 1) (omega arith) (omega arith) in
+    grind (arith, ints)

@@ -8,7 +8,7 @@ ghost use Rattle.level.specs.Types.{hundredths_of};
 ghost use Rattle.percent.specs.Inner.{Trial, passes};
 ghost use Rattle.percent.specs.Percent.{percent_of};
 
-use level::{Hundredths, Steps};
+use level::{Hundredths, Quantity, Steps};
 
 // 100 %.
 const WHOLE: u64 = 10000;
@@ -23,7 +23,7 @@ pub fn percentage(factor: Steps) -> Hundredths
     ensures { result ≡ hundredths_of (percent_of factor.0) }
 {
     let top = level_of(WHOLE);
-    let mut low: u64 = 0;
+    let mut low = 0;
     let mut width = ABOVE_WHOLE;
     while 1 < width {
         width /= 2;
@@ -31,18 +31,16 @@ pub fn percentage(factor: Steps) -> Hundredths
             low += width;
         }
     }
-    Hundredths::of(low)
+    low.into()
 }
 
 // Whether t is at most 10000, and its level, less that of 10000, not above the factor.
+#[tactic(auto, using(signed::proofs::Order::is_le_z), unfolding(crate::specs::Inner::passes, crate::specs::Percent::not_above))]
 fn passes(t: u64, factor: Steps, top: Steps) -> bool
     requires { Trial t top.0 }
     ensures { result ≡ passes factor.0 t }
 {
-    if WHOLE < t {
-        return false;
-    }
-    level_of(t).value() - top.value() <= factor.value()
+    t <= WHOLE && level_of(t) - top <= factor
 }
 
 // The level of t, which is not 0.
@@ -50,5 +48,5 @@ fn level_of(t: u64) -> Steps
     requires { 0 < t }
     ensures { result.0 ≡ pos (lev t) }
 {
-    Hundredths::of(t).level().steps()
+    Steps::or_zero(Hundredths::from(t).level())
 }

@@ -6,4 +6,4 @@ use Rattle.level.proofs.Laws.{level_known}
 use Rattle.percent.proofs.level_of.Goals as goal
 
 pub returns : goal.returns
-returns c = c.steps.ensures ∙ level_known _ _ c.requires (omega arith) (c.level.ensures ∙ ap (λ (h : Hundredths). level_of h.0) c.of.ensures)
+returns c = c.or_zero.ensures ∙ level_known _ _ c.requires (omega arith) (c.level.ensures ∙ ap (λ (h : Hundredths). level_of h.0) c.from.ensures)

@@ -22,4 +22,4 @@ loop-width-preserved c =
 
 pub returns : goal.returns
 returns c =
-    c.of.ensures ∙ ap hundredths_of (sym (percent_only _ (ended c.loop-width.invariant.0 (omega (arith, c.loop-width-test.false)))))
+    c.into.ensures ∙ ap hundredths_of (sym (percent_only _ (ended c.loop-width.invariant.0 (omega (arith, c.loop-width-test.false)))))
