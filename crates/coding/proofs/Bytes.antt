@@ -8,12 +8,12 @@ use native.Mathlib.Numerals.{add-one}
 use native.Mathlib.Omega.{arith}
 use borrow.Author.Tests.{lt-ltb, le-ltb}
 use lib.Dec.{ltb}
-use lib.IntN.{ℤ, pos, negsuc, neg_ℤ, nat_abs}
+use lib.IntN.{ℤ, pos, negsuc, neg_ℤ}
 use lib.ListN.{length, get_or, drop, length-append}
 use lib.Seq.{drop-cons, get_or-drop, drop-drop, drop_at}
-use lib.Signed.{lt_z}
 use mir.Syntax.{w16}
-use mir.Val.{SFits}
+use mir.Val.{SFits, to_z, of_z}
+use mir.Facts.{to_z-of_z}
 use Rattle.coding.specs.Numbers.{number_at, bytes_of}
 use Rattle.coding.specs.Samples.{signed, word_of, samples_at, bytes_of_samples}
 use Rattle.coding.specs.Typed.{AllSamples, AllBytes}
@@ -67,18 +67,11 @@ number_small b at a = omega (arith, byte_small b at a, byte_small b (at + 1) a)
 
 -- ---- a sample
 
--- the word of a sample from its size, below 0 and not below
-pub below_word : (x : ℤ) → lt_z x (pos 0) ≡ true → 2 ^ 16 - nat_abs x ≡ word_of x
+-- the word of a sample, as the library's cast has it
+pub word_cast : (x : ℤ) → SFits w16 x → of_z w16 (to_z w16 (of_z w16 x)) ≡ word_of x
 unfolding word_of
-below_word x e = sym (ap (λ (t : Bool). cond t (2 ^ 16 - nat_abs x) (nat_abs x)) e)
-
-pub above_word : (x : ℤ) → lt_z x (pos 0) ≡ false → nat_abs x ≡ word_of x
-unfolding word_of
-above_word x e = sym (ap (λ (t : Bool). cond t (2 ^ 16 - nat_abs x) (nat_abs x)) e)
-
-pub size_small : (x : ℤ) → SFits w16 x → nat_abs x ≤ 2 ^ 15
-size_small (pos n) f = omega (arith, f.sfits)
-size_small (negsuc n) f = f.sfits
+word_cast (pos n) f = ap (of_z w16) (to_z-of_z {w = w16} f) ∙ sym (simp (le-ltb n 0 (omega arith)))
+word_cast (negsuc n) f = ap (of_z w16) (to_z-of_z {w = w16} f)
 
 pub word_small : (x : ℤ) → SFits w16 x → word_of x < 2 ^ 16
 unfolding word_of

@@ -1,54 +1,52 @@
 -- Two's complement of a word, and the samples of a part one after another.
 use mathlib.Core.Bool.{cond}
 use mathlib.Core.List.{List, [], ◌∷◌, ◌++◌}
-use mathlib.Core.Path.{◌≡◌, sym, ap, ap₂, ◌∙◌, subst}
-use Prim.Native.Nat.{ℕ, zero, suc, ◌+◌, ◌-◌, ◌*◌, ◌^◌, ◌≤◌, ◌<◌}
+use mathlib.Core.Path.{◌≡◌, refl, sym, ap, ap₂, ◌∙◌, subst}
+use Prim.Native.Nat.{ℕ, zero, suc, ◌+◌, ◌-◌, ◌*◌, ◌/◌, ◌^◌, ◌≤◌, ◌<◌}
 use native.Mathlib.Omega.{arith}
 use native.Mathlib.Nat.{add-zero, zero-add}
 use native.Mathlib.Numerals.{add-one}
-use borrow.Author.Tests.{lt-ltb, le-ltb}
-use lib.IntN.{ℤ, pos, negsuc, neg_ℤ, ◌-ℤ◌}
-use lib.ListN.{length, drop, get_or, set}
-use lib.Seq.{drop-cons, append_snoc, set_at}
-use mir.Syntax.{w16, w64}
-use mir.Val.{SFits, to_z, of_z}
-use mir.Facts.{to_z_pos, to_z-of_z, sfits_widen}
+use lib.Dec.{ltb}
+use lib.IntN.{ℤ, pos, neg_ℤ}
+use lib.ListN.{length, take, drop, get_or, set}
+use lib.Seq.{get_or-take, get_or-drop, drop-cons, drop-drop, append_snoc, set_at}
+use mir.Syntax.{w8, w16}
+use mir.Facts.{to_z-of_z}
+use mir.Val.{Fits, SFits, to_z, of_z}
+use Rattle.std.specs.Int.{from_le_bytes}
+use Rattle.std.specs.Simd.{first_chunks}
 use Rattle.coding.specs.Numbers.{number_at}
 use Rattle.coding.specs.Samples.{signed, samples_at}
 use Rattle.coding.proofs.Laws.{samples_at_length, signed_fits}
-use Rattle.coding.proofs.Numbers.{two_bytes}
+use Rattle.coding.proofs.Numbers.{IsPart, two_bytes}
 
-pub upper : (w : ℕ) → w < 32768 → pos w ≡ signed w
+-- the sample of a word, as the library's cast has it
+cast : (w : ℕ) → w < 2 ^ 16 → to_z w16 w ≡ signed w
 unfolding signed
-upper w h = sym (ap (λ b. cond b (pos w) (neg_ℤ (pos (2 ^ 16 - w)))) (lt-ltb w (2 ^ 15) h))
+cast w h =
+    let e : 2 ^ 16 - w ≡ suc (2 ^ 16 - suc w) = omega arith in
+    sym (ap (λ (n : ℕ). cond (ltb w (2 ^ 15)) (pos w) (neg_ℤ (pos n))) e)
 
-pub lower : (w : ℕ) → 32768 ≤ w → w < 2 ^ 16 → to_z w64 w -ℤ pos 65536 ≡ signed w
-unfolding signed
-lower w h l =
-    let past : 2 ^ 16 - w ≡ suc (65535 - w) = omega arith in
-    let rest : 65536 - suc w ≡ 65535 - w = omega arith in
-    ap (λ (z : ℤ). z -ℤ pos 65536) (to_z_pos w64 {n = w} (omega arith))
-    ∙ ap (λ b. cond b (negsuc (65536 - suc w)) (pos (w - 65536))) (lt-ltb w 65536 l)
-    ∙ ap negsuc rest
-    ∙ sym (ap (λ (n : ℕ). neg_ℤ (pos n)) past)
-    ∙ sym (ap (λ b. cond b (pos w) (neg_ℤ (pos (2 ^ 16 - w)))) (le-ltb w (2 ^ 15) h))
+-- a pair of bytes
+chunk : (b : List ℕ) (k j : ℕ) (d : List ℕ) → j < k → get_or (first_chunks 2 k b) j d ≡ take 2 (drop (2 * j) b)
+chunk b zero j d h = absurd (omega arith)
+chunk b (suc k) zero d h = refl
+chunk b (suc k) (suc j) d h =
+    let e : 2 + 2 * j ≡ 2 * suc j = omega arith in
+    chunk (drop 2 b) k j d (omega arith) ∙ ap (take 2) (drop-drop (2 * j) 2 b ∙ ap (λ (n : ℕ). drop n b) e)
 
--- the sample of two bytes, as it is worked out: below 2^15, and from there on, where the word less 2^16 fits both casts
-pub upper_sample : (low high : ℕ) (b : List ℕ) (at : ℕ)
-    → low ≡ get_or b at 0 → high ≡ get_or b (at + 1) 0 → low + 256 * high < 32768 → to_z w16 (low + 256 * high) ≡ signed (number_at b at 2)
-upper_sample low high b at e f h =
-    to_z_pos w16 h ∙ upper (low + 256 * high) h ∙ ap signed (ap₂ (λ (x y : ℕ). x + 256 * y) e f ∙ two_bytes b at)
-
-casts : (w : ℕ) (x : ℤ) → x ≡ signed w → to_z w16 (of_z w16 (to_z w64 (of_z w64 x))) ≡ signed w
-casts w x e =
-    let fits : SFits w16 x = subst (SFits w16) (sym e) (signed_fits w) in
-    ap (λ (z : ℤ). to_z w16 (of_z w16 z)) (to_z-of_z {w = w64} (sfits_widen {w = w16} {w' = w64} tt fits)) ∙ to_z-of_z {w = w16} fits ∙ e
-
-pub lower_sample : (low high : ℕ) (b : List ℕ) (at : ℕ)
-    → low ≡ get_or b at 0 → high ≡ get_or b (at + 1) 0 → low < 256 → high < 256 → 32768 ≤ low + 256 * high
-    → to_z w16 (of_z w16 (to_z w64 (of_z w64 (to_z w64 (low + 256 * high) -ℤ pos 65536)))) ≡ signed (number_at b at 2)
-lower_sample low high b at e f l m h =
-    casts (low + 256 * high) _ (lower (low + 256 * high) h (omega arith)) ∙ ap signed (ap₂ (λ (x y : ℕ). x + 256 * y) e f ∙ two_bytes b at)
+-- which the library reads as the sample that stands there
+pub pair_sample : (b : List ℕ) (pairs : List (List ℕ)) (n j : ℕ) (d : List ℕ)
+    → pairs ≡ first_chunks 2 (length b / 2) b → ((i : ℕ) → Fits w8 (get_or b i 0)) → j < n → n ≤ length b / 2
+    → to_z w16 (from_le_bytes w16 (get_or (take n pairs) j d)) ≡ signed (number_at b (2 * j) 2)
+unfolding number_at
+pair_sample b pairs n j d e small h m =
+    let pair = get_or (take n pairs) j d in
+    let at : pair ≡ take 2 (drop (2 * j) b) =
+    get_or-take n pairs j d h ∙ ap (λ (q : List (List ℕ)). get_or q j d) e ∙ chunk b (length b / 2) j d (omega arith)
+    in
+    let part : IsPart pair b (2 * j) 2 = λ i l. ap (λ (q : List ℕ). get_or q i 0) at ∙ get_or-take 2 (drop (2 * j) b) i 0 l ∙ get_or-drop (2 * j) b i 0 in
+    ap (to_z w16) (two_bytes pair b (2 * j) part) ∙ cast (number_at b (2 * j) 2) (omega (arith, (small (2 * j)).fits, (small (2 * j + 1)).fits))
 
 -- one sample more
 last : (b : List ℕ) (at k : ℕ) → samples_at b at (suc k) ≡ samples_at b at k ++ (signed (number_at b (at + 2 * k) 2) ∷ [])
@@ -58,11 +56,12 @@ last b at (suc k) =
     let e : at + 2 + 2 * k ≡ at + 2 * suc k = omega arith in
     ap (λ (r : List ℤ). signed (number_at b at 2) ∷ r) (last b (at + 2) k ∙ ap (λ (n : ℕ). samples_at b (at + 2) k ++ (signed (number_at b n 2) ∷ [])) e)
 
--- and so one more place of a buffer whose first places hold the samples so far
-pub one_more : (b : List ℕ) (xs : List ℤ) (j : ℕ) (x : ℤ)
-    → j < length xs → x ≡ signed (number_at b (2 * j) 2) → set (samples_at b 0 j ++ drop j xs) j x ≡ samples_at b 0 (j + 1) ++ drop (j + 1) xs
-one_more b xs j x h e =
-    ap (λ (r : List ℤ). set (samples_at b 0 j ++ r) j x) (drop-cons xs j (pos 0) h)
+-- and so one more place of a buffer s whose first places hold the samples so far
+pub one_more : (b : List ℕ) (xs s : List ℤ) (j : ℕ) (x : ℤ) → s ≡ samples_at b 0 j ++ drop j xs → j < length xs → x ≡ signed (number_at b (2 * j) 2)
+    → set s j (to_z w16 (of_z w16 x)) ≡ samples_at b 0 (j + 1) ++ drop (j + 1) xs
+one_more b xs s j x f h e =
+    ap₂ (λ (l : List ℤ) (y : ℤ). set l j y) (f ∙ ap (λ (r : List ℤ). samples_at b 0 j ++ r) (drop-cons xs j (pos 0) h))
+    (to_z-of_z {w = w16} (subst (SFits w16) (sym e) (signed_fits (number_at b (2 * j) 2))))
     ∙ set_at (samples_at b 0 j) (get_or xs j (pos 0)) (drop (suc j) xs) x j (samples_at_length b 0 j)
     ∙ sym (append_snoc (samples_at b 0 j) x (drop (suc j) xs))
     ∙ ap (λ (y : ℤ). samples_at b 0 j ++ (y ∷ []) ++ drop (suc j) xs) (e ∙ ap (λ (n : ℕ). signed (number_at b n 2)) (sym (zero-add (2 * j))))

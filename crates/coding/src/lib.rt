@@ -7,5 +7,5 @@ mod reading;
 mod samples;
 
 pub use putting::{put_number, put_samples, put_zeros};
-pub use reading::{eight_bytes, one_byte, two_bytes};
-pub use samples::{decode, least};
+pub use reading::Number;
+pub use samples::decode;

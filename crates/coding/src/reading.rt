@@ -1,69 +1,59 @@
 // Numbers in any run of bytes, little-endian: what lies past the end reads as 0.
-ghost use Rattle.std.specs.Prelude.{◌≡◌, ◌<◌, ◌^◌, drop};
+ghost use Rattle.std.specs.Prelude.{◌≡◌, ℕ, ◌+◌, ◌<◌, slice_index};
 ghost use Rattle.coding.specs.Numbers.{number_at};
 
-// The byte at a place.
-#[tactic(auto, unfolding(crate::specs::Numbers::number_at))]
-pub fn one_byte(bytes: &[u8], at: usize) -> u8
-    ensures { result ≡ number_at bytes.now at 1 }
-{
-    if at < bytes.len() {
-        return bytes[at];
+// An unsigned number that is read from bytes.
+pub trait Number {
+    // How many bytes it has, and the number that it is.
+    ghost size: { ℕ };
+
+    ghost value: { Self → ℕ };
+
+    // The number at a place.
+    fn read(bytes: &[u8], at: usize) -> Self
+        ensures { value result ≡ number_at bytes.now at size };
+}
+
+impl Number for u8 {
+    ghost size = { 1 };
+
+    ghost value = { λ n. n };
+
+    #[tactic(auto, using(crate::proofs::Numbers::one_byte))]
+    fn read(bytes: &[u8], at: usize) -> u8 {
+        u8::from_le_bytes(bytes_at(bytes, at))
     }
-    0
 }
 
-// The number of two bytes at a place.
-#[tactic(auto, using(crate::proofs::Numbers::from_place))]
-pub fn two_bytes(bytes: &[u8], at: usize) -> u16
-    ensures { result ≡ number_at bytes.now at 2 }
-{
-    two(from(bytes, at), 0) as u16
-}
+impl Number for u16 {
+    ghost size = { 2 };
 
-// The number of eight bytes at a place.
-#[tactic(auto, using(crate::proofs::Numbers::eight_bytes, crate::proofs::Numbers::from_place))]
-pub fn eight_bytes(bytes: &[u8], at: usize) -> u64
-    ensures { result ≡ number_at bytes.now at 8 }
-{
-    let part = from(bytes, at);
-    let low = four(part, 0);
-    let high = four(part, 4);
-    low + 4294967296 * high
-}
+    ghost value = { λ n. n };
 
-#[tactic(auto, using(crate::proofs::Numbers::four_bytes))]
-fn four(bytes: &[u8], at: usize) -> u64
-    requires { at < 2 ^ 32 }
-    ensures { (result ≡ number_at bytes.now at 4) × (result < 2 ^ 32) }
-{
-    let low = two(bytes, at);
-    let high = two(bytes, at + 2);
-    low + 65536 * high
-}
-
-#[tactic(auto, unfolding(crate::specs::Numbers::number_at))]
-fn two(bytes: &[u8], at: usize) -> u64
-    requires { at < 2 ^ 33 }
-    ensures { (result ≡ number_at bytes.now at 2) × (result < 2 ^ 16) }
-{
-    let low = wide(one_byte(bytes, at));
-    let high = wide(one_byte(bytes, at + 1));
-    low + 256 * high
-}
-
-pub(crate) fn wide(byte: u8) -> u64
-    ensures { (result ≡ byte) × (result < 256) }
-{
-    byte as u64
-}
-
-// The bytes from a place on.
-fn from(bytes: &[u8], at: usize) -> &[u8]
-    ensures { result.now ≡ drop at bytes.now }
-{
-    if bytes.len() <= at {
-        return &bytes[0..0];
+    #[tactic(auto, using(crate::proofs::Numbers::two_bytes))]
+    fn read(bytes: &[u8], at: usize) -> u16 {
+        u16::from_le_bytes(bytes_at(bytes, at))
     }
-    &bytes[at..]
+}
+
+impl Number for u64 {
+    ghost size = { 8 };
+
+    ghost value = { λ n. n };
+
+    #[tactic(auto, using(crate::proofs::Numbers::eight_bytes))]
+    fn read(bytes: &[u8], at: usize) -> u64 {
+        u64::from_le_bytes(bytes_at(bytes, at))
+    }
+}
+
+// So many bytes, from a place on, with zeros past the end.
+fn bytes_at<const N: usize>(bytes: &[u8], at: usize) -> [u8; N]
+    ensures { (k : ℕ) → k < N → slice_index result k ≡ slice_index bytes.now (at + k) }
+{
+    let rest = &bytes[at.min(bytes.len())..];
+    let count = rest.len().min(N);
+    let mut part = [0; N];
+    part[..count].copy_from_slice(&rest[..count]);
+    part
 }
