@@ -10,7 +10,8 @@ use borrow.Author.Tests.{ltb-true, ltb-false, leb-true, le-ltb}
 use lib.Dec.{leb, ltb}
 use lib.IntN.{ℤ, pos, negsuc, neg_ℤ, nat_abs, ◌+ℤ◌, ◌-ℤ◌, +ℤ_assoc, +ℤ_comm, neg_ℤ-+ℤ}
 use lib.Pow.{pow-add, pow_pos, pow_mono}
-use lib.Signed.{lt_z, le_z}
+use lib.Signed.{lt_z, le_z, ◌≤ℤ◌}
+use Rattle.std.proofs.lemmas.Int.{ints}
 use Rattle.level.specs.Logarithm.{lev}
 use Rattle.level.specs.Types.{activity}
 use Rattle.level.specs.declared.Samples.{Samples}
@@ -77,6 +78,12 @@ unfolding long_term
 long_term_lem sq n s0 s1 n0 n1 = around sq (lev n) n n n n s0 s1 n0 n1 n0 n1 (le_refl n) (le_refl n) (le_refl (lev n)) (le_refl (lev n))
 
 -- ---- what a crossing is
+
+-- A_j is not below A_(j−1), where counts fall
+pub rises_lem : (S : ℤ) (a : List Samples) (j : ℕ) → 0 < activity a j → activity a j ≤ activity a (j - 1) → activity a (j - 1) ≤ 2 ^ 80
+    → pos 0 ≤ℤ (active_at S a j -ℤ active_at S a (j - 1))
+unfolding active_at
+rises_lem S a j h f u = omega (arith, ints, facts.never_falls (activity a j) (activity a (j - 1)) h f u)
 
 both : (x y : Bool) → x && y ≡ true → (x ≡ true) × (y ≡ true)
 both true y h = (refl, h)
@@ -179,7 +186,7 @@ module _ (M S : ℤ) (T : Thresholds) (a : List Samples) (j : ℕ) (cross : is_c
         alive = alive M S T a j cross;
         counts = t.counts;
         g = la - f;
-        level = simp (z, rise M S T a j t, floored (pos (la - lb)) d e (le-ltb (la - lb) 0 (omega arith)) t.above) (back S la f (omega (arith, p)));
+        level = simp (z, rise M S T a j t, floored (pos (la - lb)) d e (omega (arith, ints)) t.above) (back S la f (omega (arith, p)));
         least = omega (arith, p, t.levels);
         most = omega arith;
         over = not_below (lt_z (pos 0)) (λ n. refl) d t.above;

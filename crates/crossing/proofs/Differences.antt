@@ -1,13 +1,14 @@
 -- Differences of integers, their signs, and the part of a rise that a change of sign takes.
 use mathlib.Core.Bool.{Bool, true, false, cond, true≢false, false≢true}
 use mathlib.Core.Path.{◌≡◌, refl, sym, ap, ◌∙◌}
-use Prim.Native.Nat.{ℕ, zero, suc, ◌+◌, ◌*◌, ◌-◌, ◌/◌, ◌≤◌, ◌<◌}
-use native.Mathlib.Nat.{le_trans, le_of_lt, mul-le-mul_left, div-le_of_le-mul, mul_comm}
+use Prim.Native.Nat.{ℕ, zero, suc, ◌+◌, ◌*◌, ◌-◌, ◌/◌, ◌^◌, ◌≤◌, ◌<◌}
+use native.Mathlib.Nat.{le_trans, le_of_lt, mul-le-mul, mul-le-mul_left, div-le_self, div-le_of_le-mul, mul_comm}
 use native.Mathlib.Omega.{arith}
 use borrow.Author.Tests.{ltb-true, ltb-false, leb-true, le-leb, le-ltb}
 use lib.Dec.{ltb}
 use lib.IntN.{ℤ, pos, negsuc, neg_ℤ, nat_abs, ◌+ℤ◌, ◌-ℤ◌, ◌*ℤ◌, +ℤ_assoc, +ℤ_comm, +ℤ-neg_ℤ_cancel, neg_ℤ-+ℤ, neg_ℤ-neg_ℤ}
-use lib.Signed.{lt_z, le_z}
+use lib.Signed.{lt_z, le_z, ◌≤ℤ◌}
+use Rattle.std.proofs.lemmas.Int.{ints}
 use Rattle.signed.proofs.Order.{AtMost, at_most, at_most_test}
 use Rattle.crossing.specs.Crossing.{floor_over}
 
@@ -90,11 +91,13 @@ wider (pos x) (pos y) u v = absurd (omega (arith, ltb-true y 0 v))
 wider (pos x) (negsuc y) u v = omega arith
 wider (negsuc x) e u v = absurd (false≢true u)
 
-pub floored : (r d e : ℤ) → lt_z r (pos 0) ≡ false → lt_z (pos 0) d ≡ true
-    → floor_over (r *ℤ d) (nat_abs (d -ℤ e)) ≡ pos (nat_abs r * nat_abs d / nat_abs (d -ℤ e))
+pub floored : (r d e : ℤ) → pos 0 ≤ℤ r → lt_z (pos 0) d ≡ true → floor_over (r *ℤ d) (nat_abs (d -ℤ e)) ≡ pos (nat_abs r * nat_abs d / nat_abs (d -ℤ e))
 floored (pos r) (pos x) e s u = refl
 floored (pos r) (negsuc x) e s u = absurd (false≢true u)
-floored (negsuc r) d e s u = absurd (true≢false s)
+floored (negsuc r) d e s u = absurd (omega (arith, ints))
 
 pub part : (r x w : ℕ) → x < w → r * x / w ≤ r
 part r x w h = div-le_of_le-mul w (le_trans (mul-le-mul_left r (le_of_lt h)) (omega (arith, mul_comm r w)))
+
+pub part_small : (r x w : ℕ) → r ≤ 2 ^ 22 → x ≤ 2 ^ 22 → r * x / w ≤ 2 ^ 44
+part_small r x w h l = le_trans (div-le_self (r * x) w) (le_trans (mul-le-mul h l) (omega arith))

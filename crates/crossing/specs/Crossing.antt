@@ -1,6 +1,5 @@
 -- The crossing, and the active level at it: METHOD.md, "The report". M is the margin, S is lev(sq), t the thresholds and a the activity counts.
-use Rattle.std.specs.Prelude.{Bool, false, cond, ◌&&◌, ◌||◌, List, ℕ, zero, suc, ◌-◌, eqb, leb, ltb, ℤ, pos, negsuc, nat_abs, ◌+ℤ◌, ◌-ℤ◌, ◌*ℤ◌}
-use Rattle.std.proofs.Math.Option.{Option, none, some}
+use Rattle.std.specs.Prelude.{Bool, false, cond, ◌&&◌, ◌||◌, List, ℕ, zero, suc, ◌-◌, eqb, leb, ltb, ℤ, pos, negsuc, nat_abs, ◌+ℤ◌, ◌-ℤ◌, ◌*ℤ◌, Option, Some, None}
 use Rattle.std.specs.Int.Signed.{lt_z, shr_z}
 use Rattle.level.specs.Types.{activity}
 use Rattle.level.specs.declared.Samples.{Samples}
@@ -19,8 +18,8 @@ is_crossing M S t a j =
 
 -- the highest place below k at which f holds
 unfoldable pub highest_below : (ℕ → Bool) → (k : ℕ) → Option ℕ
-highest_below f zero = none
-highest_below f (suc k) = cond (f k) (some k) (highest_below f k)
+highest_below f zero = None
+highest_below f (suc k) = cond (f k) (Some k) (highest_below f k)
 
 -- the highest crossing
 unfoldable pub crossing : (M S : ℤ) (t : Thresholds) (a : List Samples) → Option ℕ

@@ -1,14 +1,15 @@
 -- The levels at a crossing, and what the search for one finds: METHOD.md, "The report" and "Why a call is refused". M is the margin, t the thresholds.
-use Rattle.std.specs.Prelude.{cond, List, ℕ, ℤ, pos, ◌-ℤ◌}
-use Rattle.std.proofs.Math.Option.{Option, none, some}
+use Rattle.std.specs.Prelude.{cond, List, ℕ, ℤ, pos, ◌-ℤ◌, Option, Some, None, Result, Ok, Err}
 use Rattle.std.specs.Int.Signed.{lt_z}
 use Rattle.level.specs.Logarithm.{lev}
 use Rattle.level.specs.Types.{steps_of}
 use Rattle.level.specs.declared.Samples.{Samples}
 use Rattle.thresholds.specs.declared.Thresholds.{Thresholds}
 use Rattle.crossing.specs.declared.Levels.{Levels}
-use Rattle.crossing.specs.declared.Found.{Found}
-use Rattle.crossing.specs.declared.Found.TheVariants.{At, Below, Above}
+use Rattle.refusal.specs.declared.Refusal.{Refusal}
+use Rattle.refusal.specs.declared.Refusal.TheVariants.{NoCrossingBelow, NoCrossingAbove}
+use Rattle.crossing.specs.declared.NoCrossing.{NoCrossing}
+use Rattle.crossing.specs.declared.NoCrossing.TheVariants.{Below, Above}
 use Rattle.crossing.specs.Levels.{long_term, excess}
 use Rattle.crossing.specs.Crossing.{crossing, lower_of, upper_of, active_level}
 
@@ -53,14 +54,18 @@ pub record Searched : Type 0 where
 
 -- at what the search for a crossing found: its levels; or none, by the sign of d_0
 unfoldable pub levels_for : (M : ℤ) (n sq : ℕ) (t : Thresholds) (a : List Samples) → Option ℕ → Searched
-levels_for M n sq t a none = record { number = cond (lt_z (first_excess M sq t a) (pos 0)) 15 16; levels = no_levels }
-levels_for M n sq t a (some j) = record { number = 0; levels = levels_at M n sq t a j }
+levels_for M n sq t a None = record { number = cond (lt_z (first_excess M sq t a) (pos 0)) 15 16; levels = no_levels }
+levels_for M n sq t a (Some j) = record { number = 0; levels = levels_at M n sq t a j }
 
 unfoldable pub searched : (M : ℤ) (n sq : ℕ) (t : Thresholds) (a : List Samples) → Searched
 searched M n sq t a = levels_for M n sq t a (crossing_in M sq t a)
 
--- what each case of an answer says
-unfoldable pub said : Found → Searched
-said (At l) = record { number = 0; levels = l }
-said Below = record { number = 15; levels = no_levels }
-said Above = record { number = 16; levels = no_levels }
+-- what an answer says, and the refusal of each reason
+unfoldable pub said : Result Levels NoCrossing → Searched
+said (Ok l) = record { number = 0; levels = l }
+said (Err Below) = record { number = 15; levels = no_levels }
+said (Err Above) = record { number = 16; levels = no_levels }
+
+abbrev pub refusal_of : NoCrossing → Refusal
+refusal_of Below = NoCrossingBelow
+refusal_of Above = NoCrossingAbove

@@ -1,22 +1,21 @@
 // The levels of a report (METHOD.md, "The report"): the crossing, and the active level at it.
 #![tactic(auto)]
 
-mod interpolation;
-mod search;
-mod steps;
+mod measurement;
 
 ghost use Rattle.std.specs.Prelude.{◌≡◌};
 ghost use Rattle.level.specs.Types.{two_words};
 ghost use Rattle.crossing.specs.Inner.FindLevels.{Measured};
-ghost use Rattle.crossing.specs.Searched.{said, searched};
+ghost use Rattle.crossing.specs.Searched.{said, searched, refusal_of};
 
-use crate::search::Place;
+use crate::measurement::Measurement;
 use level::{Samples, Squares, Steps};
+use refusal::Refusal;
 use thresholds::{PLACES, Thresholds};
 
 // The long-term level L, the active level A, the threshold C and the activity factor F, in steps;
 // the lower and the upper threshold of the crossing.
-#[derive(Clone, Copy)]
+#[derive(Clone, Copy, Debug, PartialEq, Eq)]
 pub struct Levels {
     pub level: Steps,
     pub active: Steps,
@@ -26,49 +25,53 @@ pub struct Levels {
     pub upper: u64,
 }
 
-// What the search for a crossing finds: levels; or no crossing, with the first difference below 0,
-// or above it.
-#[derive(Clone, Copy)]
-pub enum Found {
-    At(Levels),
+// Why there are no levels: there is no crossing, and the first difference is below 0, or above it.
+#[derive(Clone, Copy, Debug, PartialEq, Eq)]
+pub enum NoCrossing {
     Below,
     Above,
 }
 
+impl From<NoCrossing> for Refusal {
+    ghost from_gives = { λ why r. r ≡ refusal_of why };
+
+    fn from(why: NoCrossing) -> Refusal {
+        match why {
+            NoCrossing::Below => Refusal::NoCrossingBelow,
+            NoCrossing::Above => Refusal::NoCrossingAbove,
+        }
+    }
+}
+
 // The levels of n samples with the sum of squares sq and, at a list of thresholds, the activity counts a.
+#[tactic(auto, using(crate::proofs::Sizes::level_read, crate::proofs::Searching::found), unfolding(crate::specs::Searched::said, crate::specs::Searched::searched, crate::specs::Searched::levels_for, crate::specs::Searched::crossing_in, crate::specs::Searched::first_excess, crate::specs::Crossing::crossing))]
 pub fn find_levels(
     n: Samples,
     sq: Squares,
     list: Thresholds,
     a: [Samples; PLACES],
     margin: Steps,
-) -> Found
+) -> Result<Levels, NoCrossing>
     requires { Measured margin.0 n.0 (two_words sq) list a }
     ensures { said result ≡ searched margin.0 n.0 (two_words sq) list a }
 {
-    let power = sq.level().steps();
-    match search::crossing(power, list, a, margin) {
-        Place::At(j) => {
-            let level = steps::over(power, n);
-            let at = interpolation::at_crossing(power, list, a, j, margin);
-            let active = at.level;
-            Found::At(Levels {
-                level,
-                active,
-                threshold: steps::minus(active, margin),
-                factor: steps::minus(level, active),
-                lower: at.lower as u64,
-                upper: j as u64,
-            })
-        }
-        Place::Nowhere => {
-            let c = list.at;
-            let first = steps::excess(power, a[0], c[0], margin);
-            if steps::below_zero(first) {
-                Found::Below
-            } else {
-                Found::Above
-            }
-        }
-    }
+    let measurement = Measurement {
+        power: Steps::or_zero(sq.level()),
+        margin,
+        thresholds: &list,
+        counts: &a,
+    };
+    let Some(upper) = measurement.crossing() else {
+        return Err(measurement.no_crossing());
+    };
+    let level = measurement.level_over(n);
+    let active = measurement.active_at(upper);
+    Ok(Levels {
+        level,
+        active: active.level,
+        threshold: active.level - margin,
+        factor: level - active.level,
+        lower: active.lower as u64,
+        upper: upper as u64,
+    })
 }
