@@ -1,13 +1,15 @@
 -- The three facts about lev: `facts`, by which the crates above know it. The place of the highest one bit and the start m bound n on both sides,
 -- and the squarings carry both bounds to n^4096.
-use Rattle.std.proofs.Common.{◌≡◌, ℕ, zero, suc, ◌+◌, ◌*◌, ◌/◌, ◌^◌, ◌<◌, ◌≤◌, Bool, true, false, cond, leb, pos, sym, refl, ap, ◌∙◌, subst, le_trans, le_of_eq, lt_of_lt_of_le, le_of_suc-le-suc, lt_of_le_of_lt, mul-le-mul_right, mul_assoc, mul_comm, div-lt_iff_lt-mul, le_antisymm, lt_of_mul-lt-mul_right, mul-le-mul_left, mul-lt-mul_of_pos_right, pow-suc, lt_of_not-le, le-div_iff_mul-le, not-le_of_lt, div-mul-le_self, le_of_mul-le-mul_right, arith, pow_pos, pow_mono, pow-add, le-leb, leb-false, leb-true}
+use Rattle.std.proofs.Common.{◌≡◌, ℕ, zero, suc, ◌+◌, ◌*◌, ◌/◌, ◌^◌, ◌<◌, ◌≤◌, pos, sym, refl, ap, ◌∙◌, subst, le_trans, le_of_eq, lt_of_lt_of_le, le_of_suc-le-suc, lt_of_le_of_lt, mul-le-mul_right, mul_assoc, mul_comm, div-lt_iff_lt-mul, le_antisymm, lt_of_mul-lt-mul_right, mul-le-mul_left, mul-lt-mul_of_pos_right, pow-suc, lt_of_not-le, le-div_iff_mul-le, not-le_of_lt, div-mul-le_self, le_of_mul-le-mul_right, arith, pow_pos, pow_mono, pow-add, le-leb}
 use native.Mathlib.Nat.{one-le-pow, pow-le-pow_left, lt-div-mul-add}
 use native.Mathlib.Decide.{dec_le}
 use lib.Pow.{shr_mono}
+use Rattle.std.proofs.lemmas.Bool.Decides.{nat_tests}
 use Rattle.std.specs.Prelude.{Option, Some, None}
 use Rattle.level.specs.Logarithm.{place_up_to, place, spell, start, lev, level_of, value_of, steps_in, Facts}
 use Rattle.level.specs.declared.Steps.{Steps}
-use Rattle.level.proofs.Powers.{mul_pow, pow_mul}
+use Rattle.std.proofs.lemmas.Nat.{mul-pow}
+use Rattle.level.proofs.Powers.{pow_mul}
 use Rattle.level.proofs.Squarings.{low, up, spell_lt, spell_mono}
 
 -- ---- the place of the highest one bit
@@ -15,23 +17,15 @@ use Rattle.level.proofs.Squarings.{low, up, spell_lt, spell_mono}
 pub pow_lt_cancel : {a b : ℕ} → 2 ^ a < 2 ^ b → a < b
 pow_lt_cancel h = lt_of_not-le (λ g. not-le_of_lt h (pow_mono g))
 
-from_low_cond : (j p n : ℕ) → 2 ^ p ≤ n → (b : Bool) → leb (2 ^ j) n ≡ b → 2 ^ cond b j p ≤ n
-from_low_cond j p n ih true e = leb-true (2 ^ j) n e
-from_low_cond j p n ih false e = ih
-
 from_low : (h n : ℕ) → 1 ≤ n → 2 ^ place_up_to h n ≤ n
 unfolding place_up_to
 from_low zero n l = l
-from_low (suc h) n l = from_low_cond (suc h) (place_up_to h n) n (from_low h n l) (leb (2 ^ suc h) n) refl
-
-from_up_cond : (j p n : ℕ) → n < 2 ^ suc j → (n < 2 ^ j → n < 2 ^ suc p) → (b : Bool) → leb (2 ^ j) n ≡ b → n < 2 ^ suc (cond b j p)
-from_up_cond j p n l ih true e = l
-from_up_cond j p n l ih false e = ih (leb-false (2 ^ j) n e)
+from_low (suc h) n l = grind (arith, nat_tests, from_low h n l)
 
 from_up : (h n : ℕ) → n < 2 ^ suc h → n < 2 ^ suc (place_up_to h n)
 unfolding place_up_to
 from_up zero n l = l
-from_up (suc h) n l = from_up_cond (suc h) (place_up_to h n) n l (λ g. from_up h n g) (leb (2 ^ suc h) n) refl
+from_up (suc h) n l = grind (arith, nat_tests, from_up h n)
 
 pub place_low : (n : ℕ) → 1 ≤ n → 2 ^ place n ≤ n
 unfolding place
@@ -80,13 +74,13 @@ lower K q b s m n hq h l =
     le_of_mul-le-mul_right
     (le_trans (le_of_eq (mul_assoc (b ^ K) s (q ^ K) ∙ mul_comm (b ^ K) (s * q ^ K)))
     (le_trans (mul-le-mul_right (b ^ K) l)
-    (le_trans (le_of_eq (sym (mul_pow m b K))) (le_trans (pow-le-pow_left h K) (le_of_eq (mul_pow n q K))))))
+    (le_trans (le_of_eq (sym (mul-pow m b K))) (le_trans (pow-le-pow_left h K) (le_of_eq (mul-pow n q K))))))
     (one-le-pow K q hq)
 
 upper : (K q b s m n : ℕ) → 0 < b → n * q ≤ m * b → m ^ K < s * q ^ K → n ^ K < b ^ K * s
 upper K q b s m n hb h l =
     lt_of_mul-lt-mul_right (q ^ K)
-    (lt_of_le_of_lt (le_trans (le_of_eq (sym (mul_pow n q K))) (le_trans (pow-le-pow_left h K) (le_of_eq (mul_pow m b K))))
+    (lt_of_le_of_lt (le_trans (le_of_eq (sym (mul-pow n q K))) (le_trans (pow-le-pow_left h K) (le_of_eq (mul-pow m b K))))
     (lt_of_lt_of_le (mul-lt-mul_of_pos_right l (one-le-pow K b hb)) (le_of_eq (mul_comm (s * q ^ K) (b ^ K) ∙ sym (mul_assoc (b ^ K) s (q ^ K))))))
 
 pow_lev : (K b s : ℕ) → 2 ^ (K * b + s) ≡ (2 ^ b) ^ K * 2 ^ s

@@ -1,72 +1,54 @@
 -- The squarings of the level logarithm: one bounded both ways, then k by induction, at a variable k. An upper bound m + e on the true mantissa
 -- goes over to the next one as 3e + 1. Nothing is computed with the exponent 2^12.
-use Rattle.std.proofs.Common.{◌≡◌, ℕ, zero, suc, ◌+◌, ◌-◌, ◌*◌, ◌/◌, ◌^◌, ◌<◌, ◌≤◌, Bool, true, false, cond, leb, sym, refl, ap, ◌∙◌, le_trans, le_of_eq, lt_of_lt_of_le, lt_of_le_of_lt, mul-le-mul_right, zero-lt-suc, mul_assoc, mul_comm, mul-le-mul, mul-le-mul_left, mul-lt-mul_of_pos_right, pow-suc, lt_of_not-le, mul-one, mul_left_comm, arith, pow_pos, pow-add, leb-false, leb-true}
+use Rattle.std.proofs.Common.{◌≡◌, ℕ, zero, suc, ◌+◌, ◌-◌, ◌*◌, ◌/◌, ◌^◌, ◌<◌, ◌≤◌, sym, ap, ◌∙◌, le_trans, le_of_eq, lt_of_lt_of_le, lt_of_le_of_lt, mul-le-mul_right, zero-lt-suc, mul_assoc, mul_comm, mul-le-mul, mul-le-mul_left, mul-lt-mul_of_pos_right, pow-suc, mul-one, mul_left_comm, arith, pow_pos, pow-add}
 use native.Mathlib.Nat.{one-le-pow, pow-le-pow_left, two-pow-succ}
 use lib.Pow.{shr_mono}
+use Rattle.std.proofs.lemmas.Bool.Decides.{nat_tests}
+use Rattle.std.proofs.lemmas.Nat.{mul-pow}
 use Rattle.level.specs.Logarithm.{bit, next, spell}
-use Rattle.level.proofs.Powers.{pow_one, mul_pow, pow_mul, square_pow}
+use Rattle.level.proofs.Powers.{pow_one, pow_mul, square_pow}
 
 -- what a step divides by
-abbrev pub by : ℕ → ℕ
+abbrev by : ℕ → ℕ
 by t = 2 ^ 31 * 2 ^ bit t
 
 -- ---- one step
 
-by_cond : (b : Bool) (t : ℕ) → cond b (t / 2 ^ 32) (t / 2 ^ 31) * (2 ^ 31 * 2 ^ cond b 1 0) ≤ t
-by_cond true t = omega arith
-by_cond false t = omega arith
-
-pub next_low : (t : ℕ) → next t * by t ≤ t
+next_low : (t : ℕ) → next t * by t ≤ t
 unfolding next bit
-next_low t = by_cond (leb (2 ^ 63) t) t
+next_low t = grind (arith, nat_tests)
 
-by_cond_up : (b : Bool) (t : ℕ) → t < (cond b (t / 2 ^ 32) (t / 2 ^ 31) + 1) * (2 ^ 31 * 2 ^ cond b 1 0)
-by_cond_up true t = omega arith
-by_cond_up false t = omega arith
-
-pub next_up : (t : ℕ) → t < (next t + 1) * by t
+next_up : (t : ℕ) → t < (next t + 1) * by t
 unfolding next bit
-next_up t = by_cond_up (leb (2 ^ 63) t) t
+next_up t = grind (arith, nat_tests)
 
-next_cond : (t : ℕ) → t < 2 ^ 64 → (b : Bool) → leb (2 ^ 63) t ≡ b → cond b (t / 2 ^ 32) (t / 2 ^ 31) < 2 ^ 32
-next_cond t h true e = omega arith
-next_cond t h false e = omega (arith, leb-false (2 ^ 63) t e)
-
-pub next_fits : (t : ℕ) → t < 2 ^ 64 → next t < 2 ^ 32
+next_fits : (t : ℕ) → t < 2 ^ 64 → next t < 2 ^ 32
 unfolding next
-next_fits t h = next_cond t h (leb (2 ^ 63) t) refl
+next_fits t h = grind (arith, nat_tests)
 
-pub square_fits : {m : ℕ} → m < 2 ^ 32 → m * m < 2 ^ 64
+square_fits : {m : ℕ} → m < 2 ^ 32 → m * m < 2 ^ 64
 square_fits {m} h =
     let g : m ≤ 2 ^ 32 - 1 = omega arith in
     let p : m * m ≤ (2 ^ 32 - 1) * (2 ^ 32 - 1) = mul-le-mul g g in
     omega arith
 
-stays_cond : (t : ℕ) → 2 ^ 62 ≤ t → (b : Bool) → leb (2 ^ 63) t ≡ b → 2 ^ 31 ≤ cond b (t / 2 ^ 32) (t / 2 ^ 31)
-stays_cond t h true e = omega (arith, leb-true (2 ^ 63) t e)
-stays_cond t h false e = omega arith
-
-pub next_stays : (m : ℕ) → 2 ^ 31 ≤ m → 2 ^ 31 ≤ next (m * m)
+next_stays : (m : ℕ) → 2 ^ 31 ≤ m → 2 ^ 31 ≤ next (m * m)
 unfolding next
-next_stays m h = stays_cond (m * m) (mul-le-mul {n₁ = 2 ^ 31} {m₁ = 2 ^ 31} h h) (leb (2 ^ 63) (m * m)) refl
+next_stays m h = let p : 2 ^ 31 * 2 ^ 31 ≤ m * m = mul-le-mul h h in grind (arith, nat_tests)
 
 -- 2m + e is at most thrice what the step divides by: where the bit is 0, m is below 2^31 times the root of 2
 root : (m : ℕ) → m * m < 2 ^ 63 → m < 3037000500
-root m h = lt_of_not-le (λ (g : 3037000500 ≤ m). let p : 3037000500 * 3037000500 ≤ m * m = mul-le-mul g g in omega arith)
-
-thrice_cond : (m e : ℕ) → m < 2 ^ 32 → e ≤ 2 ^ 28 → (b : Bool) → leb (2 ^ 63) (m * m) ≡ b → 2 * m + e ≤ 3 * (2 ^ 31 * 2 ^ cond b 1 0)
-thrice_cond m e h l true q = omega arith
-thrice_cond m e h l false q = omega (arith, root m (leb-false (2 ^ 63) (m * m) q))
+root m h = grind arith
 
 thrice : (m e : ℕ) → m < 2 ^ 32 → e ≤ 2 ^ 28 → 2 * m + e ≤ 3 * by (m * m)
 unfolding bit
-thrice m e h l = thrice_cond m e h l (leb (2 ^ 63) (m * m)) refl
+thrice m e h l = grind (arith, nat_tests, root)
 
 -- an upper bound m + e goes over to the next m as 3e + 1
 carry : (m e n d : ℕ) → m * m < (n + 1) * d → 2 * m + e ≤ 3 * d → (m + e) * (m + e) ≤ (n + (3 * e + 1)) * d
 carry m e n d h l = let p : e * (2 * m + e) ≤ e * (3 * d) = mul-le-mul_left e l in omega arith
 
-pub next_carry : (m e : ℕ) → m < 2 ^ 32 → e ≤ 2 ^ 28 → (m + e) * (m + e) ≤ (next (m * m) + (3 * e + 1)) * by (m * m)
+next_carry : (m e : ℕ) → m < 2 ^ 32 → e ≤ 2 ^ 28 → (m + e) * (m + e) ≤ (next (m * m) + (3 * e + 1)) * by (m * m)
 next_carry m e h l = carry m e (next (m * m)) (by (m * m)) (next_up (m * m)) (thrice m e h l)
 
 -- ---- k steps, from below: 2^spell times (2^31)^(2^k) is at most m^(2^k)
@@ -80,7 +62,7 @@ low_step K q r s m n h ih =
     le_trans
     (le_of_eq (ap (λ (x : ℕ). r ^ K * s * x) (pow-add q K K) ∙ shuffle (r ^ K) s (q ^ K)))
     (le_trans (mul-le-mul_right (q ^ K * r ^ K) ih)
-    (le_trans (le_of_eq (ap (λ (x : ℕ). n ^ K * x) (sym (mul_pow q r K)) ∙ sym (mul_pow n (q * r) K)))
+    (le_trans (le_of_eq (ap (λ (x : ℕ). n ^ K * x) (sym (mul-pow q r K)) ∙ sym (mul-pow n (q * r) K)))
     (le_trans (pow-le-pow_left h K) (le_of_eq (sym (square_pow m K))))))
 
 pow_spell : (k b s : ℕ) → 2 ^ (b * 2 ^ k + s) ≡ (2 ^ b) ^ (2 ^ k) * 2 ^ s
@@ -98,7 +80,7 @@ low (suc k) m h =
 up_step : (K q r s m n : ℕ) → 0 < q → 0 < r → m * m ≤ n * (q * r) → n ^ K < s * q ^ K → m ^ (K + K) < r ^ K * s * q ^ (K + K)
 up_step K q r s m n hq hr h ih =
     lt_of_le_of_lt
-    (le_trans (le_of_eq (square_pow m K)) (le_trans (pow-le-pow_left h K) (le_of_eq (mul_pow n (q * r) K ∙ ap (λ (x : ℕ). n ^ K * x) (mul_pow q r K)))))
+    (le_trans (le_of_eq (square_pow m K)) (le_trans (pow-le-pow_left h K) (le_of_eq (mul-pow n (q * r) K ∙ ap (λ (x : ℕ). n ^ K * x) (mul-pow q r K)))))
     (lt_of_lt_of_le (mul-lt-mul_of_pos_right ih (mul-le-mul (one-le-pow K q hq) (one-le-pow K r hr)))
     (le_of_eq (sym (ap (λ (x : ℕ). r ^ K * s * x) (pow-add q K K) ∙ shuffle (r ^ K) s (q ^ K)))))
 
@@ -128,13 +110,9 @@ up (suc k) m e h l =
 
 -- ---- order
 
-pub bit_le : (t : ℕ) → bit t ≤ 1
+bit_le : (t : ℕ) → bit t ≤ 1
 unfolding bit
-bit_le t = go (leb (2 ^ 63) t)
-  where
-    go : (b : Bool) → cond b 1 0 ≤ 1
-    go true = omega arith
-    go false = omega arith
+bit_le t = grind (arith, nat_tests)
 
 pub spell_lt : (k m : ℕ) → spell k m < 2 ^ k
 unfolding spell
@@ -144,18 +122,14 @@ spell_lt (suc k) m =
     omega (arith, spell_lt k (next (m * m)), two-pow-succ k)
 
 -- of two tests the larger number's is no lower; where they agree so do the next m's order
-spell_cond : (K a b x y : ℕ) (p q : Bool) → leb (2 ^ 63) a ≡ p → leb (2 ^ 63) b ≡ q → a ≤ b → x < K → (cond p (a / 2 ^ 32) (a / 2 ^ 31) ≤ cond q (b / 2 ^ 32) (b / 2 ^ 31) → x ≤ y) → cond p 1 0 * K + x ≤ cond q 1 0 * K + y
-spell_cond K a b x y true true e f h l ih = omega (arith, ih (shr_mono 32 h))
-spell_cond K a b x y false false e f h l ih = omega (arith, ih (shr_mono 31 h))
-spell_cond K a b x y false true e f h l ih = omega arith
-spell_cond K a b x y true false e f h l ih = absurd (omega (arith, leb-true (2 ^ 63) a e, leb-false (2 ^ 63) b f))
-
 pub spell_mono : (k m n : ℕ) → m ≤ n → spell k m ≤ spell k n
 unfolding spell bit next
 spell_mono zero m n h = omega arith
 spell_mono (suc k) m n h =
-    spell_cond (2 ^ k) (m * m) (n * n) (spell k (next (m * m))) (spell k (next (n * n))) (leb (2 ^ 63) (m * m)) (leb (2 ^ 63) (n * n)) refl refl (mul-le-mul h h)
-    (spell_lt k (next (m * m))) (spell_mono k (next (m * m)) (next (n * n)))
+    let q : m * m ≤ n * n = mul-le-mul h h in
+    let a = shr_mono 31 q in
+    let b = shr_mono 32 q in
+    grind (arith, nat_tests, spell_lt k (next (m * m)), spell_mono k (next (m * m)) (next (n * n)))
 
 -- ---- a loop that takes the twelve steps one by one
 
@@ -164,22 +138,13 @@ pub record Spells (start m bits turns : ℕ) : Type 0 where
   pub fits : m < 2 ^ 32
   pub spells : bits * 2 ^ (12 - turns) + spell (12 - turns) m ≡ spell 12 start
 
--- t / 2^63 is the bit
 bit_is : (t : ℕ) → t < 2 ^ 64 → t / 2 ^ 63 ≡ bit t
 unfolding bit
-bit_is t h = go (leb (2 ^ 63) t) refl
-  where
-    go : (b : Bool) → leb (2 ^ 63) t ≡ b → t / 2 ^ 63 ≡ cond b 1 0
-    go true e = omega (arith, leb-true (2 ^ 63) t e)
-    go false e = omega (arith, leb-false (2 ^ 63) t e)
+bit_is t h = grind (arith, nat_tests)
 
 next_is : (t : ℕ) → t / 2 ^ (31 + bit t) ≡ next t
 unfolding next bit
-next_is t = go (leb (2 ^ 63) t)
-  where
-    go : (b : Bool) → t / 2 ^ (31 + cond b 1 0) ≡ cond b (t / 2 ^ 32) (t / 2 ^ 31)
-    go true = refl
-    go false = refl
+next_is t = grind (arith, nat_tests)
 
 turn_suc : (S j m r : ℕ) → r * 2 ^ suc j + spell (suc j) m ≡ S → (2 * r + bit (m * m)) * 2 ^ j + spell j (next (m * m)) ≡ S
 unfolding spell

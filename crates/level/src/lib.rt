@@ -154,6 +154,7 @@ impl Squares {
     pub const ZERO: Squares = Squares { high: 0, low: 0 };
 
     // With y added. A carry out of the high word is lost.
+    #[tactic(auto, using(crate::proofs::Words::carry), unfolding(crate::specs::Types::grown))]
     pub fn grown(self, y: u64) -> Squares
         ensures { result ≡ grown self y }
     {
