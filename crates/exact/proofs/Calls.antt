@@ -38,7 +38,7 @@ use Rattle.exact.specs.Demands.{TypedOffset, exact_at}
 use Rattle.exact.specs.Exact.{E, start_at, start, take_all, accepts, fed, exactly, answers_of_e, took}
 use Rattle.exact.specs.Lists.{called, accepted, after, answers, taken}
 use Rattle.thresholds.specs.Lists.{built_in_list, wrong_length, wrong_entry, wrong_end, unloadable, list_rules}
-use Rattle.thresholds.proofs.Below.{neither}
+use Rattle.std.proofs.lemmas.Bool.{or_parts}
 use Rattle.thresholds.proofs.Laws.{built_in_loads, loaded, rising}
 use Rattle.exact.proofs.Envelope.{same_k}
 use Rattle.exact.proofs.Tied.{by, Tied, same_code, same_i, same_o, total, tied_samples, tied_fresh}
@@ -274,8 +274,8 @@ accepted_setting c z =
 pub usual_opens : (code : ℕ) → is_named code ≡ true → (open_call (usual_setting code)).number ≡ 0
 unfolding NoneApplies open_rules list_rules unnamed_code wrong_margin unloadable
 usual_opens code n =
-    let l = neither (wrong_length built_in_list) (wrong_entry built_in_list || wrong_end built_in_list) built_in_loads in
-    let k = neither (wrong_entry built_in_list) (wrong_end built_in_list) l.1 in
+    let l = or_parts (wrong_length built_in_list) (wrong_entry built_in_list || wrong_end built_in_list) built_in_loads in
+    let k = or_parts (wrong_entry built_in_list) (wrong_end built_in_list) l.1 in
     (open_given (usual_setting code)).0.accepted.1 (ap not n, (refl, (l.0, (k.0, (k.1, tt)))))
 
 none_yet : (k I : ℕ) → (fresh_state k I).sums.n.0 ≤ most_samples

@@ -12,7 +12,8 @@ use lib.IntN.{nat_abs}
 use lib.ListN.{get_or}
 use Rattle.level.specs.Types.{most_samples, activity, two_words}
 use Rattle.thresholds.specs.Lists.{places, unloadable}
-use Rattle.thresholds.proofs.Below.{none_below, each_below, none_from, each_from, neither, go_on}
+use Rattle.std.proofs.lemmas.Bool.{or_parts, or_from}
+use Rattle.thresholds.proofs.Below.{none_below, each_below, none_from, each_from}
 use Rattle.rate.specs.Rates.{is_named}
 use Rattle.setting.specs.Settings.{i_of, wrong_margin}
 use Rattle.meter.specs.declared.Meter.{Meter}
@@ -85,7 +86,7 @@ passes m p =
                       (ordered k j (rises m) l (λ i h. le-ltb _ _ (p.a_falls i h)), (ordered k j (falls m) l (λ i h. le-ltb _ _ (p.h_rises i h)), tt)),
                     ),
                   )),
-              (none_from k places _ (λ j g l. sym (go_on _ _ _ (le-ltb _ _ (p.a_past j l g)) (sym (le-ltb _ _ (p.h_past j l g))))), tt),
+              (none_from k places _ (λ j g l. or_from _ _ (le-ltb _ _ (p.a_past j l g)) (le-ltb _ _ (p.h_past j l g))), tt),
             ),
           ),
         ),
@@ -99,7 +100,7 @@ possible m h =
     let k = m.setting.thresholds.count in
     let s = none_of _ n.1.1.1.0 in
     let c : (j : ℕ) → j < k → NoneOf (counter m j) = λ j l. none_of _ (each_below k _ n.1.1.1.1.0 j l) in
-    let e : (j : ℕ) → j < places → k ≤ j → (ltb 0 (activity m.state.a j) ≡ false) × (ltb 0 (get_or m.state.h j 0) ≡ false) = λ j l g. neither _ _ (each_from k places _ n.1.1.1.1.1.0 j g l) in
+    let e : (j : ℕ) → j < places → k ≤ j → (ltb 0 (activity m.state.a j) ≡ false) × (ltb 0 (get_or m.state.h j 0) ≡ false) = λ j l g. or_parts _ _ (each_from k places _ n.1.1.1.1.1.0 j g l) in
     record {
       named = not-false _ n.0;
       list = n.1.0;

@@ -8,7 +8,7 @@ use lib.Dec.{T}
 use lib.IntN.{ℤ, pos, negsuc, nat_abs}
 use lib.Signed.{lt_z}
 use Rattle.setting.specs.Settings.{least_margin, largest_margin, wrong_margin}
-use Rattle.thresholds.proofs.Below.{neither}
+use Rattle.std.proofs.lemmas.Bool.{or_parts}
 
 -- a margin from 1 to 22314
 pub record Allowed (M : ℤ) : Type 0 where
@@ -22,4 +22,4 @@ allowed (negsuc n) low high = absurd (subst T low tt)
 
 pub margin_range : (M : ℤ) → wrong_margin M ≡ false → Allowed M
 unfolding wrong_margin
-margin_range M ok = let n = neither _ _ ok in allowed M n.0 n.1
+margin_range M ok = let n = or_parts _ _ ok in allowed M n.0 n.1

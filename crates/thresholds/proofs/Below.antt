@@ -2,27 +2,16 @@
 use mathlib.Core.Bool.{Bool, true, false, ◌&&◌, ◌||◌, or-true, or-false, or_assoc}
 use mathlib.Core.List.{List, [], ◌∷◌}
 use mathlib.Core.Logic.{⊎_elim}
-use mathlib.Core.Path.{◌≡◌, refl, sym, ap, ap₂, ◌∙◌, subst}
+use mathlib.Core.Path.{◌≡◌, refl, sym, ap, ap₂, ◌∙◌}
 use Prim.Native.Nat.{ℕ, zero, suc, ◌+◌, ◌≤◌, ◌<◌}
 use native.Mathlib.Nat.{eq-or-lt_of_le, le_of_suc-le-suc, not-suc-le-zero, le-suc, lt_of_lt_of_le}
-use native.Mathlib.Numerals.{add-one}
 use native.Mathlib.Omega.{arith}
 use borrow.Author.Tests.{le-leb, leb-true}
-use lib.Dec.{T, leb}
+use lib.Dec.{leb}
 use lib.ListN.{length, get_or}
 use Rattle.std.specs.List.{list_any}
+use Rattle.std.proofs.lemmas.Bool.{or_parts}
 use Rattle.thresholds.specs.Places.{some_below, some_from}
-
-pub neither : (x y : Bool) → x || y ≡ false → (x ≡ false) × (y ≡ false)
-neither true y h = absurd (subst T h tt)
-neither false y h = (refl, h)
-
--- two conditions, tested one after the other
-pub stop : (x y : Bool) → x ≡ true → true ≡ x || y
-stop x y e = sym (ap (λ (b : Bool). b || y) e)
-
-pub go_on : (x y r : Bool) → x ≡ false → r ≡ y → r ≡ x || y
-go_on x y r e h = h ∙ sym (ap (λ (b : Bool). b || y) e)
 
 pub none_below : (k : ℕ) (f : ℕ → Bool) → ((j : ℕ) → j < k → f j ≡ false) → some_below k f ≡ false
 unfolding some_below
@@ -33,7 +22,7 @@ pub each_below : (k : ℕ) (f : ℕ → Bool) → some_below k f ≡ false → (
 unfolding some_below
 each_below zero f h j l = absurd (not-suc-le-zero l)
 each_below (suc k) f h j l =
-    let n = neither (some_below k f) (f k) h in
+    let n = or_parts (some_below k f) (f k) h in
     ⊎_elim (λ e. ap f e ∙ n.1) (λ s. each_below k f n.0 j s) (eq-or-lt_of_le (le_of_suc-le-suc l))
 
 pub some_below_lem : (f : ℕ → Bool) (j k : ℕ) → f j ≡ true → j < k → some_below k f ≡ true
@@ -43,10 +32,6 @@ some_below_lem f j (suc k) e l =
     ⊎_elim (λ p. ap (λ (b : Bool). some_below k f || b) (ap f (sym p) ∙ e) ∙ or-true (some_below k f))
     (λ p. ap (λ (b : Bool). b || f k) (some_below_lem f j k e p))
     (eq-or-lt_of_le (le_of_suc-le-suc l))
-
-pub one_more : (f : ℕ → Bool) (j : ℕ) → some_below j f ≡ false → f j ≡ false → some_below (j + 1) f ≡ false
-unfolding some_below
-one_more f j a b = ap (λ (k : ℕ). some_below k f) (add-one j) ∙ ap (λ (x : Bool). x || f j) a ∙ b
 
 -- ---- from k on
 
@@ -61,28 +46,6 @@ none_from k n f h = none_below n _ (λ j l. go j l (leb k j) refl)
 pub each_from : (k n : ℕ) (f : ℕ → Bool) → some_from k n f ≡ false → (j : ℕ) → k ≤ j → j < n → f j ≡ false
 unfolding some_from
 each_from k n f e j m l = sym (ap (λ (b : Bool). b && f j) (le-leb k j m)) ∙ each_below n _ e j l
-
-pub some_from_lem : (k n : ℕ) (f : ℕ → Bool) (j : ℕ) → f j ≡ true → k ≤ j → j < n → some_from k n f ≡ true
-unfolding some_from
-some_from_lem k n f j e m l = some_below_lem _ j n (ap (λ (b : Bool). b && f j) (le-leb k j m) ∙ e) l
-
--- a search from k on that has come to j, with nothing found
-pub record Passed (k : ℕ) (f : ℕ → Bool) (j : ℕ) : Type 0 where
-  pub reached : k ≤ j
-  pub none : (i : ℕ) → k ≤ i → i < j → f i ≡ false
-
-pub passed_none : (k : ℕ) (f : ℕ → Bool) → Passed k f k
-passed_none k f = record { reached = omega arith; none = λ i m l. absurd (omega (arith, m, l)) }
-
-pub passed_on : (k : ℕ) (f : ℕ → Bool) (j : ℕ) → Passed k f j → f j ≡ false → Passed k f (j + 1)
-passed_on k f j p e =
-    record {
-      reached = omega (arith, p.reached);
-      none = λ i m l. ⊎_elim (λ q. ap f q ∙ e) (λ s. p.none i m s) (eq-or-lt_of_le (le_of_suc-le-suc (subst (λ (x : ℕ). i < x) (add-one j) l)));
-    }
-
-pub passed_all : (k n : ℕ) (f : ℕ → Bool) (j : ℕ) → Passed k f j → n ≤ j → some_from k n f ≡ false
-passed_all k n f j p m = none_from k n f (λ i r l. p.none i r (omega (arith, m, l)))
 
 -- ---- a search through a list, as one through places
 

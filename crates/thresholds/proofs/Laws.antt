@@ -8,12 +8,13 @@ use native.Mathlib.Omega.{arith}
 use borrow.Author.Tests.{ltb-true, ltb-false, leb-false}
 use lib.Dec.{leb, ltb}
 use lib.ListN.{length, get_or, get_or-eq_default}
+use Rattle.std.proofs.lemmas.Bool.{or_parts}
 use Rattle.refusal.specs.First.{first_of}
 use Rattle.thresholds.specs.declared.Thresholds.{Thresholds}
 use Rattle.thresholds.specs.Lists.{places, fewest, threshold_of, doubled, built_in_count, built_in_list, wrong_length, wrong_entry, wrong_end, wrong_pair, outside, filled, list_rules, unloadable}
 use Rattle.thresholds.specs.Rising.{Rising}
 use Rattle.thresholds.specs.Places.{some_below, some_from, each, list_from, up_to}
-use Rattle.thresholds.proofs.Below.{neither, each_below, each_from}
+use Rattle.thresholds.proofs.Below.{each_below, each_from}
 use Rattle.thresholds.proofs.Places.{list_length, each_at, up_to_past, filled_at}
 
 pub doubled_is : (j : ℕ) → doubled j ≡ 2 ^ (j + 24)
@@ -87,14 +88,14 @@ pub length_in : (t : Thresholds) → wrong_length t ≡ false → (fewest ≤ t.
 unfolding wrong_length
 length_in t u =
     let past = some_from t.count places (filled t) in
-    let l = neither (ltb t.count fewest) (ltb places t.count || past) u in
-    (ltb-false t.count fewest l.0, ltb-false places t.count (neither (ltb places t.count) past l.1).0)
+    let l = or_parts (ltb t.count fewest) (ltb places t.count || past) u in
+    (ltb-false t.count fewest l.0, ltb-false places t.count (or_parts (ltb places t.count) past l.1).0)
 
 past_in : (t : Thresholds) → wrong_length t ≡ false → (j : ℕ) → t.count ≤ j → j < places → threshold_of t j ≡ 0
 unfolding wrong_length
 past_in t u j l h =
     let past = some_from t.count places (filled t) in
-    let n = neither (ltb places t.count) past (neither (ltb t.count fewest) (ltb places t.count || past) u).1 in
+    let n = or_parts (ltb places t.count) past (or_parts (ltb t.count fewest) (ltb places t.count || past) u).1 in
     omega (arith, ltb-false 0 (threshold_of t j) (each_from t.count places (filled t) n.1 j l h))
 
 entries_in : (t : Thresholds) → wrong_entry t ≡ false → (j : ℕ) → j + 1 < t.count → threshold_of t j < threshold_of t (j + 1)
@@ -102,21 +103,21 @@ unfolding wrong_entry
 entries_in t u j h =
     let x = threshold_of t j in
     let y = threshold_of t (j + 1) in
-    leb-false y x (neither (leb y x) _ (each_below (t.count - 1) (pair_at t) u j (omega arith))).0
+    leb-false y x (or_parts (leb y x) _ (each_below (t.count - 1) (pair_at t) u j (omega arith))).0
 
 ends_in : (t : Thresholds) → wrong_end t ≡ false → (2 ^ 22 ≤ threshold_of t 0) × (threshold_of t (t.count - 1) ≤ 2 ^ 39)
 unfolding wrong_end
 ends_in t u =
     let f = threshold_of t 0 in
     let l = threshold_of t (t.count - 1) in
-    let n = neither (outside (2 ^ 22) (2 ^ 24) f) (outside (2 ^ 37) (2 ^ 39) l) u in
-    (ltb-false f (2 ^ 22) (neither (ltb f (2 ^ 22)) (ltb (2 ^ 24) f) n.0).0, ltb-false (2 ^ 39) l (neither (ltb l (2 ^ 37)) (ltb (2 ^ 39) l) n.1).1)
+    let n = or_parts (outside (2 ^ 22) (2 ^ 24) f) (outside (2 ^ 37) (2 ^ 39) l) u in
+    (ltb-false f (2 ^ 22) (or_parts (ltb f (2 ^ 22)) (ltb (2 ^ 24) f) n.0).0, ltb-false (2 ^ 39) l (or_parts (ltb l (2 ^ 37)) (ltb (2 ^ 39) l) n.1).1)
 
 pub loaded : (t : Thresholds) → unloadable t ≡ false → Loaded t
 unfolding unloadable
 loaded t u =
-    let n = neither (wrong_length t) (wrong_entry t || wrong_end t) u in
-    let m = neither (wrong_entry t) (wrong_end t) n.1 in
+    let n = or_parts (wrong_length t) (wrong_entry t || wrong_end t) u in
+    let m = or_parts (wrong_entry t) (wrong_end t) n.1 in
     record {
       least = (length_in t n.0).0;
       most = (length_in t n.0).1;
