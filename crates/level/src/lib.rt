@@ -3,9 +3,9 @@
 // leads from the first three to the last.
 #![tactic(auto)]
 
-ghost use Rattle.std.specs.Prelude.{◌≡◌, ℕ, ◌^◌, ◌<◌, ◌≤◌, ◌+ℤ◌, ◌-ℤ◌, FitsSigned};
+ghost use Rattle.std.specs.Prelude.{◌≡◌, ℕ, ◌<◌, ◌+ℤ◌, ◌-ℤ◌, FitsSigned};
 ghost use Rattle.std.specs.Int.{w64};
-ghost use Rattle.level.specs.Logarithm.{spell, lev, level_of, value_of, steps_in};
+ghost use Rattle.level.specs.Logarithm.{spell, level_of, value_of, steps_in};
 ghost use Rattle.level.specs.Types.{samples_of, hundredths_of, units_of, steps_of, two_words, grown};
 
 use std::ops::{Add, Sub};
@@ -176,7 +176,7 @@ impl Squares {
 // The largest number that has a level.
 const MOST: u128 = 1 << 80;
 
-// The level of a number.
+// The level of a number: the place of its highest one bit, and twelve bits that its top 32 spell.
 fn lev(n: u128) -> Option<Steps>
     ensures { value_of result ≡ level_of n }
 {
