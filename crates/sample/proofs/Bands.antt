@@ -2,14 +2,17 @@
 use borrow.Author.Tests.{lt-ltb, le-ltb, le-leb, lt-leb}
 use mathlib.Core.Logic.{◌⊎◌, inl, inr}
 use mathlib.Core.Path.{◌≡◌, refl, ap, subst, subst₂, sym, ◌∙◌}
-use Prim.Native.Nat.{ℕ, zero, suc, ◌+◌, ◌-◌, ◌≤◌, ◌<◌}
+use Prim.Native.Nat.{ℕ, zero, suc, ◌+◌, ◌-◌, ◌^◌, ◌≤◌, ◌<◌}
 use native.Mathlib.Decide.{dec_le}
 use native.Mathlib.Nat.{lt_of_not-le, lt_of_le_of_lt, lt_of_lt_of_le, not-suc-le-zero}
 use native.Mathlib.Numerals.{add-one}
 use native.Mathlib.Omega.{arith}
 use lib.Dec.{leb, ltb}
+use Rattle.thresholds.specs.declared.Thresholds.{Thresholds}
+use Rattle.thresholds.specs.Lists.{threshold_of}
+use Rattle.thresholds.specs.Rising.{Rising}
 use Rattle.sample.specs.declared.band.Band.{Band}
-use Rattle.sample.specs.Inner.Bands.{Clear, top, low_end, high_end, IsBand, Around}
+use Rattle.sample.specs.Inner.Bands.{Clear, top, low_end, high_end}
 
 -- the band above p thresholds, where there is one more, ends at it
 pub ends_at : (c : ℕ → ℕ) (k p : ℕ) → p < k → high_end c k p ≡ c p
@@ -24,6 +27,10 @@ ends_nowhere c k p l = rw (le-ltb p k l)
 pub up_low : (c : ℕ → ℕ) (k p : ℕ) → p < k → high_end c k p ≡ low_end c (p + 1)
 unfolding low_end
 up_low c k p l = ends_at c k p l ∙ ap (low_end c) (sym (add-one p))
+
+pub from_none : (c : ℕ → ℕ) (p : ℕ) → p ≡ 0 → 0 ≡ low_end c p
+unfolding low_end
+from_none c p e = sym (ap (low_end c) e)
 
 pub one_less : (c : ℕ → ℕ) (p : ℕ) → (p ≡ 0 → ⊥) → c (p - 1) ≡ low_end c p
 unfolding low_end
@@ -43,11 +50,6 @@ module _ (c : ℕ → ℕ) (k : ℕ) (rise : (i j : ℕ) → i ≤ j → j < k �
   side_of p j m l (yes g) = inr (subst (λ (x : ℕ). x ≤ c j) (sym (ends_at c k p (omega arith))) (rise p j g l))
   side_of p j m l (no f) = inl (under p j (lt_of_not-le f) m)
 
-  pub clear : (b : Band) → IsBand c k b → Clear c k b.low b.high
-  clear b i =
-      let p = b.below in
-      record { side = λ j l. subst₂ (λ (x y : ℕ). (c j ≤ x) ⊎ (y ≤ c j)) (sym i.low) (sym i.high) (side_of p j i.few l (dec_le p j)) }
-
   -- the thresholds at or below an envelope's band are the first of them
   reached : (q p j : ℕ) → p ≤ k → low_end c p ≤ q → q < high_end c k p → j < k → Dec (p ≤ j) → leb (c j) (low_end c p) ≡ ltb j p
   reached q p j m f t l (yes g) =
@@ -55,9 +57,39 @@ module _ (c : ℕ → ℕ) (k : ℕ) (rise : (i j : ℕ) → i ≤ j → j < k �
       lt-leb (c j) (low_end c p) (lt_of_le_of_lt f (lt_of_lt_of_le (subst (λ (x : ℕ). q < x) e t) (rise p j g l))) ∙ sym (le-ltb j p g)
   reached q p j m f t l (no g) = le-leb (c j) (low_end c p) (under p j (lt_of_not-le g) m) ∙ sym (lt-ltb j p (lt_of_not-le g))
 
-  pub sides : (q : ℕ) (b : Band) → Around c k q b → (j : ℕ) → j < k → leb (c j) b.low ≡ ltb j b.below
-  sides q b a j l =
-      let p = b.below in
-      let i = a.band in
-      ap (leb (c j)) i.low
-      ∙ reached q p j i.few (subst (λ (x : ℕ). x ≤ q) i.low a.from) (subst (λ (x : ℕ). q < x) i.high a.to) l (dec_le p j)
+module _ (t : Thresholds) (b : Band) (of_list : b.list.now ≡ t) (r : Rising t) where
+  begins : b.low ≡ low_end (threshold_of t) b.below
+  begins = b.begins ∙ ap (λ (x : Thresholds). low_end (threshold_of x) b.below) of_list
+
+  ends : b.high ≡ high_end (threshold_of t) t.count b.below
+  ends = b.ends ∙ ap (λ (x : Thresholds). high_end (threshold_of x) x.count b.below) of_list
+
+  pub placed : b.below ≤ t.count
+  placed = subst (λ (x : Thresholds). b.below ≤ x.count) of_list b.within
+
+  -- no threshold of its list lies inside a band
+  pub clear : Clear (threshold_of t) t.count b.low b.high
+  clear = record { side = λ j l. subst₂ (λ (x y : ℕ). (threshold_of t j ≤ x) ⊎ (y ≤ threshold_of t j)) (sym begins) (sym ends) (side_of (threshold_of t) t.count r.rises b.below j placed l (dec_le b.below j)) }
+
+  -- the thresholds at or below an envelope's band are the first of them
+  pub sides : (q : ℕ) → b.low ≤ q → q < b.high → (j : ℕ) → j < t.count → leb (threshold_of t j) b.low ≡ ltb j b.below
+  sides q f h j l =
+      ap (leb (threshold_of t j)) begins
+      ∙ reached (threshold_of t) t.count r.rises q b.below j placed (subst (λ (x : ℕ). x ≤ q) begins f) (subst (λ (x : ℕ). q < x) ends h) l (dec_le b.below j)
+
+-- no envelope is below 0, so a band that begins above it is not the lowest
+pub some_below : (b : Band) (q : ℕ) → q < b.low → 0 < b.below
+unfolding low_end
+some_below b q l = go b.below b.begins
+  where
+    go : (p : ℕ) → b.low ≡ low_end (threshold_of b.list.now) p → 0 < p
+    go zero e = absurd (omega arith)
+    go (suc p) e = omega arith
+
+-- and none comes to the end of the last band
+pub some_above : (b : Band) (q : ℕ) → b.high ≤ q → q ≤ 2 ^ 40 → b.below < b.list.now.count
+some_above b q l m = go (dec_le b.list.now.count b.below)
+  where
+    go : Dec (b.list.now.count ≤ b.below) → b.below < b.list.now.count
+    go (yes g) = absurd (omega (arith, ends_nowhere (threshold_of b.list.now) b.list.now.count b.below g))
+    go (no g) = lt_of_not-le g

@@ -1,7 +1,6 @@
 pub mod Activity
 mod Bands
 pub mod Envelope
-mod Front
 mod Moved
 mod Over
 mod Numbers

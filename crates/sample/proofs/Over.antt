@@ -12,22 +12,26 @@ use lib.ListN.{get_or}
 use Rattle.sample.specs.Activity.{counted, hung}
 use Rattle.sample.specs.Sample.{hangovers}
 use Rattle.sample.specs.Inner.Bands.{Clear}
-use Rattle.sample.specs.Inner.Runs.{count_over, hangover_over, plain_counts, counts_by, hangovers_by}
+use Rattle.sample.specs.Inner.Over.{count_over, hangover_over}
+use Rattle.sample.specs.Inner.Runs.{plain_counts, counts_by, hangovers_by}
 use Rattle.sample.proofs.Activity.{counted_le, hung_le}
 use Rattle.thresholds.specs.Lists.{places}
 use Rattle.thresholds.proofs.Places.{filled_at, filled_same}
 
 -- ---- on: every sample counts
 
-pub on_count : (I d a h : ℕ) → count_over I true d a h ≡ a + d
+pub on_count : (I : ℕ) (on : Bool) (d a h : ℕ) → on ≡ true → a + d ≡ count_over I on d a h
 unfolding count_over counted
-on_count I zero a h = sym (add-zero a)
-on_count I (suc d) a h = omega (arith, on_count I d a h)
+on_count I on d a h e = sym (ap (λ (b : Bool). count_over I b d a h) e ∙ go d)
+  where
+    go : (d : ℕ) → count_over I true d a h ≡ a + d
+    go zero = sym (add-zero a)
+    go (suc d) = omega (arith, go d)
 
-pub on_hangover : (I d h : ℕ) → 0 < d → hangover_over I true d h ≡ 0
+pub on_hangover : (I : ℕ) (on : Bool) (d h : ℕ) → on ≡ true → (d ≡ 0 → ⊥) → 0 ≡ hangover_over I on d h
 unfolding hangover_over hung
-on_hangover I zero h z = absurd (omega arith)
-on_hangover I (suc d) h z = refl
+on_hangover I on zero h e z = absurd (z refl)
+on_hangover I on (suc d) h e z = sym (ap (λ (b : Bool). hangover_over I b (suc d) h) e)
 
 -- ---- off: those that the hangover has left
 
@@ -47,26 +51,32 @@ off_hung I h l = go (ltb h I) refl
     go true e = omega (arith, ltb-true h I e)
     go false e = omega (arith, ltb-false h I e)
 
-pub off_hangover : (I d h : ℕ) → h ≤ I → hangover_over I false d h ≡ h + min d (I - h)
+off_hangover_go : (I d h : ℕ) → h ≤ I → hangover_over I false d h ≡ h + min d (I - h)
 unfolding hangover_over
-off_hangover I zero h l = omega arith
-off_hangover I (suc d) h l =
-    let ih = off_hangover I d h l in
+off_hangover_go I zero h l = omega arith
+off_hangover_go I (suc d) h l =
+    let ih = off_hangover_go I d h l in
     off_hung I (hangover_over I false d h) (omega arith) ∙ next (hangover_over I false d h) ih
   where
     next : (H : ℕ) → H ≡ h + min d (I - h) → H + min 1 (I - H) ≡ h + min (suc d) (I - h)
     next H e = omega arith
 
-pub off_count : (I d a h : ℕ) → h ≤ I → count_over I false d a h ≡ a + min d (I - h)
+off_count_go : (I d a h : ℕ) → h ≤ I → count_over I false d a h ≡ a + min d (I - h)
 unfolding count_over
-off_count I zero a h l = omega arith
-off_count I (suc d) a h l =
-    let ih = off_count I d a h l in
-    let hh = off_hangover I d h l in
+off_count_go I zero a h l = omega arith
+off_count_go I (suc d) a h l =
+    let ih = off_count_go I d a h l in
+    let hh = off_hangover_go I d h l in
     off_one I (count_over I false d a h) (hangover_over I false d h) (omega arith) ∙ next (count_over I false d a h) (hangover_over I false d h) ih hh
   where
     next : (A H : ℕ) → A ≡ a + min d (I - h) → H ≡ h + min d (I - h) → A + min 1 (I - H) ≡ a + min (suc d) (I - h)
     next A H e g = omega arith
+
+pub off_hangover : (I : ℕ) (on : Bool) (d h m : ℕ) → on ≡ false → h ≤ I → m ≡ min d (I - h) → h + m ≡ hangover_over I on d h
+off_hangover I on d h m e l q = ap (λ (x : ℕ). h + x) q ∙ sym (ap (λ (b : Bool). hangover_over I b d h) e ∙ off_hangover_go I d h l)
+
+pub off_count : (I : ℕ) (on : Bool) (d a h m : ℕ) → on ≡ false → h ≤ I → m ≡ min d (I - h) → a + m ≡ count_over I on d a h
+off_count I on d a h m e l q = ap (λ (x : ℕ). a + x) q ∙ sym (ap (λ (b : Bool). count_over I b d a h) e ∙ off_count_go I d a h l)
 
 -- an empty run changes nothing
 pub no_count_lem : (I : ℕ) (on : Bool) (d a h : ℕ) → d ≡ 0 → count_over I on d a h ≡ a

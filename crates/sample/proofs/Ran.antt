@@ -7,8 +7,10 @@ use native.Mathlib.Omega.{arith}
 use lib.IntN.{ℤ, pos}
 use lib.ListN.{length, get_or, drop, drop_of_length-le}
 use lib.Seq.{drop-cons}
+use mir.Facts.{to_z-of_z}
 use mir.Syntax.{w16}
 use mir.Val.{SFits}
+use Rattle.std.proofs.Common.{to_z, of_z, refl, subst}
 use Rattle.level.specs.Types.{samples_of}
 use Rattle.thresholds.specs.declared.Thresholds.{Thresholds}
 use Rattle.thresholds.specs.Lists.{places, threshold_of}
@@ -17,6 +19,7 @@ use Rattle.sample.specs.declared.Counting.{Counting}
 use Rattle.sample.specs.declared.Sums.{Sums}
 use Rattle.sample.specs.declared.State.{State}
 use Rattle.sample.specs.declared.step.Moving.{Moving}
+use Rattle.sample.specs.Envelope.{smoothing}
 use Rattle.sample.specs.Sample.{summed, counts, hangovers, state_after_one, state_after}
 use Rattle.sample.specs.Inner.Steps.{moved, ended, Room}
 use Rattle.sample.specs.Inner.Bands.{Clear}
@@ -94,10 +97,13 @@ pub room_for_one : {by : Counting} {low high : ℕ} {m : Moving} {xs : List ℤ}
 room_for_one {xs = xs} {r = r} {i = i} g l = room_less 1 (length xs - i) r (omega arith) g.room
 
 -- the sample at index i, in what moves
-module _ (by : Counting) (low high : ℕ) (m : Moving) (xs : List ℤ) (at : ℕ) (k : Sized by) (r s : Moving) (i : ℕ) (g : Going by low high m xs at r i)
-    (l : i < length xs) (f : SFits w16 (get_or xs i (pos 0))) (e : s ≡ moved by r (get_or xs i (pos 0))) where
+module _ (by : Counting) (low high : ℕ) (m : Moving) (xs : List ℤ) (at : ℕ) (r s : Moving) (i : ℕ) (g : Going by low high m xs at r i)
+    (l : i < length xs) (k : by.k ≤ smoothing) (o : SFits w16 by.offset) (f : SFits w16 (get_or xs i (pos 0))) (read : s ≡ moved by r (to_z w16 (of_z w16 (get_or xs i (pos 0))))) where
+  e : s ≡ moved by r (get_or xs i (pos 0))
+  e = read ∙ ap (moved by r) (to_z-of_z {w = w16} f)
+
   kept : Room (length xs - (i + 1)) s
-  kept = room_after by r s _ i (length xs) l k f e g.room
+  kept = room_after by r s _ i (length xs) l (record { k_max = k; offset_fits = o }) f e g.room
 
   stepped : (t : Thresholds) (b : Sums) (Q : ℕ) (since a h : List ℕ) → state_after by t (standing_at by t b r Q i since a h) (drop i xs) ≡ led_by by t b s Q i since a h xs
   stepped t b Q since a h =
@@ -126,9 +132,9 @@ module _ (by : Counting) (low high : ℕ) (m : Moving) (xs : List ℤ) (at : ℕ
       }
 
 -- the samples may end first
-pub run_out : {by : Counting} {low high : ℕ} {m : Moving} {xs : List ℤ} {at : ℕ} {r : Moving} {i : ℕ} → Going by low high m xs at r i → length xs ≤ i → Ran by low high m xs at r i
-run_out {by} {m = m} {xs = xs} {r = r} {i = i} g h =
-    record {
+pub run_out : (by : Counting) (low high : ℕ) (m : Moving) (xs : List ℤ) (at : ℕ) (r : Moving) (i : ℕ) → Going by low high m xs at r i → length xs ≤ i → Ran by low high m xs at r (length xs)
+run_out by low high m xs at r i g h = subst (Ran by low high m xs at r) last
+    (record {
       on = g.on;
       within = g.within;
       room = room_less _ _ r (omega arith) g.room;
@@ -136,8 +142,11 @@ run_out {by} {m = m} {xs = xs} {r = r} {i = i} g h =
           g.same t few b Q since a h' p q c before
           ∙ no_more by t (ended b r i) _ _ xs i h
           ∙ ap (λ (n : Sums). led by t n (counts_by (threshold_of t) t.count by.i Q i since a h') (hangovers_by (threshold_of t) t.count by.i Q i since h') (drop i xs))
-          (ap (ended b r) (last i (length xs) g.within h));
-    }
+          (ap (ended b r) so_many);
+    })
   where
-    last : (i l : ℕ) → i ≤ l → l ≤ i → i ≡ min (i + 1) l
-    last i l p q = omega arith
+    last : i ≡ length xs
+    last = omega (arith, g.within)
+
+    so_many : i ≡ min (i + 1) (length xs)
+    so_many = omega (arith, g.within)

@@ -1,33 +1,42 @@
 -- The loop over runs: how it stands, a turn of it, and its end.
 use mathlib.Core.Bool.{Bool, false, cond, ◌||◌}
-use mathlib.Core.List.{List}
-use mathlib.Core.Path.{◌≡◌, ap, ap₂, ◌∙◌, sym}
+use mathlib.Core.List.{List, map}
+use mathlib.Core.Path.{◌≡◌, ap, ap₂, ◌∙◌, subst, sym}
 use Prim.Native.Nat.{ℕ, ◌+◌, ◌-◌, ◌^◌, ◌≤◌, ◌<◌, min}
-use native.Mathlib.Nat.{le_refl, lt_of_le_of_lt}
+use native.Mathlib.Decide.{dec_le}
+use native.Mathlib.Nat.{le_refl, lt_of_le_of_lt, lt_of_not-le, pos_of_ne-zero}
 use native.Mathlib.Omega.{arith}
 use lib.Dec.{leb, ltb}
 use lib.IntN.{ℤ, pos}
 use lib.ListN.{length, get_or, drop}
+use mir.Facts.{to_z-of_z}
 use mir.Syntax.{w16}
 use mir.Val.{SFits}
-use Rattle.level.specs.Types.{most_samples}
+use Rattle.std.proofs.Common.{to_z, of_z}
+use Rattle.level.specs.declared.Samples.{Samples}
+use Rattle.level.specs.Types.{samples_of, activity, most_samples}
 use Rattle.thresholds.specs.declared.Thresholds.{Thresholds}
 use Rattle.thresholds.specs.Lists.{places, threshold_of}
 use Rattle.thresholds.specs.Rising.{Rising}
 use Rattle.sample.specs.declared.Counting.{Counting}
+use Rattle.sample.specs.declared.State.{State}
 use Rattle.sample.specs.declared.Sums.{Sums}
 use Rattle.sample.specs.declared.band.Band.{Band}
+use Rattle.sample.specs.declared.counters.Counters.{Counters}
 use Rattle.sample.specs.declared.step.Moving.{Moving}
 use Rattle.sample.specs.Sample.{each, summed, state_after}
-use Rattle.sample.specs.Inner.Bands.{Around}
+use Rattle.sample.specs.Inner.Counters.{Standing, SettledAt, Settled}
+use Rattle.sample.specs.Inner.Over.{count_over, hangover_over, between}
+use Rattle.sample.specs.Inner.Runs.{counts_by, hangovers_by, numbers_of, state_of, led, led_by, Ran}
 use Rattle.sample.specs.Inner.Steps.{begun, moved, ended, Room}
-use Rattle.sample.specs.Inner.Runs.{count_over, hangover_over, counts_by, hangovers_by, Standing, SettledAt, Settled, between, state_of, led, led_by, Ran}
-use Rattle.sample.proofs.Bands.{clear, sides}
+use Rattle.sample.proofs.Bands.{clear, sides, placed}
 use Rattle.thresholds.proofs.Places.{list_length, each_at, filled_same, is_filled_lem, at_or_past}
 use Rattle.sample.proofs.Over.{no_count_lem, no_hangover}
-use Rattle.sample.proofs.Moved.{Sized, ended_none, ended_at, up_to_end, room_less, room_after}
+use Rattle.sample.specs.StateAfter.{Within}
+use Rattle.sample.proofs.Moved.{ended_none, ended_at, up_to_end, room_first, room_less, room_after}
+use Rattle.sample.proofs.Numbers.{typed_again, number_at}
 use Rattle.sample.proofs.Ran.{none_left, step_is}
-use Rattle.sample.proofs.Settling.{apart, uncrossed, all_places, stands_count, stands_hangover, index_le, count_le, hangover_le}
+use Rattle.sample.proofs.Settling.{apart, uncrossed, all_places, stands_count, stands_hangover, index_le, count_le}
 
 -- ---- past the end of the list nothing is settled
 
@@ -47,22 +56,20 @@ module _ (I at : ℕ) (one on : Bool) (a h s a' h' s' : ℕ) (S : SettledAt I at
 
 -- ---- the loop
 
--- at index at: m is what the sample there left, and each counter stands for the envelope's band. The sums were b and the counters a₀ and h₀ before the
--- samples
-pub record Turning (by : Counting) (T : Thresholds) (b : Sums) (a₀ h₀ : List ℕ) (xs : List ℤ) (a h since : List ℕ) (m : Moving) (band : Band) (at : ℕ) : Type 0 where
+-- at index at: m is what the sample there left, and each counter stands for the envelope's band. The state was s before the samples
+pub record Turning (by : Counting) (T : Thresholds) (s : State) (xs : List ℤ) (c : Counters) (m : Moving) (band : Band) (at : ℕ) : Type 0 where
   pub within : at ≤ length xs
   pub room : Room (length xs - (at + 1)) m
   pub list : Rising T
-  pub a_length : places ≡ length a
-  pub h_length : places ≡ length h
-  pub since_length : places ≡ length since
-  pub index : (j : ℕ) → get_or since j 0 ≤ at
-  pub a_max : (j : ℕ) → get_or a j 0 ≤ b.n.0 + get_or since j 0
-  pub h_max : (j : ℕ) → get_or h j 0 ≤ by.i
-  pub a_past : (j : ℕ) → T.count ≤ j → get_or a j 0 ≡ 0
-  pub h_past : (j : ℕ) → T.count ≤ j → get_or h j 0 ≡ 0
-  pub around : Around (threshold_of T) T.count m.q band
-  pub rest : led_by by T b m band.low at since a h xs ≡ state_after by T (state_of b a₀ h₀) xs
+  pub of_list : band.list.now ≡ T
+  pub from : band.low ≤ m.q
+  pub to : m.q < band.high
+  pub limit : c.i ≡ by.i
+  pub index : (j : ℕ) → get_or c.since j 0 ≤ at
+  pub a_max : (j : ℕ) → get_or c.a j 0 ≤ s.sums.n.0 + get_or c.since j 0
+  pub a_past : (j : ℕ) → T.count ≤ j → get_or c.a j 0 ≡ 0
+  pub h_past : (j : ℕ) → T.count ≤ j → get_or c.h j 0 ≡ 0
+  pub rest : led_by by T s.sums m band.low at c.since c.a c.h xs ≡ state_after by T s xs
 
 -- ---- the start
 
@@ -86,48 +93,75 @@ module _ (T : Thresholds) (I Q : ℕ) (a h : List ℕ) (la : places ≡ length a
   unfolding hangovers_by
   at_first_hangovers = is_filled_lem places T.count h _ lh (λ j l. sym (no_hangover I (leb (threshold_of T j) Q) _ (get_or h j 0) (none_since j))) ph
 
--- the first sample, and room for it and the others
-module _ (by : Counting) (b : Sums) (m : Moving) (xs : List ℤ) (some : 0 < length xs) (k : Sized by) (f : SFits w16 (get_or xs 0 (pos 0)))
-    (e : m ≡ moved by (begun b) (get_or xs 0 (pos 0))) (r : Room (length xs) (begun b)) where
-  pub first_room : Room (length xs - 1) m
-  first_room = room_after by (begun b) m _ 0 (length xs) some k f e (room_less _ _ (begun b) (omega arith) r)
+-- bounded in the list, and zero past it
+within_bound : (l : List ℕ) (k b : ℕ) → ((j : ℕ) → j < k → get_or l j 0 ≤ b) → ((j : ℕ) → k ≤ j → get_or l j 0 ≡ 0) → (j : ℕ) → get_or l j 0 ≤ b
+within_bound l k b f z j = go (dec_le k j)
+  where
+    go : Dec (k ≤ j) → get_or l j 0 ≤ b
+    go (yes g) = omega (arith, z j g)
+    go (no g) = f j (lt_of_not-le g)
 
-  pub started : (T : Thresholds) (a h : List ℕ) (band : Band) → Rising T → b.sq.low < 2 ^ 64 → places ≡ length a → places ≡ length h
-      → ((j : ℕ) → get_or a j 0 ≤ b.n.0) → ((j : ℕ) → get_or h j 0 ≤ by.i) → ((j : ℕ) → T.count ≤ j → get_or a j 0 ≡ 0) → ((j : ℕ) → T.count ≤ j → get_or h j 0 ≡ 0) → Around (threshold_of T) T.count m.q band
-      → Turning by T b a h xs a h (each places (λ _. 0)) m band 0
+-- the hangovers of a state are within I
+pub h_within : {by : Counting} {T : Thresholds} {new : ℕ} {s : State} → Within by T new s → (j : ℕ) → get_or s.h j 0 ≤ by.i
+h_within {by} {T} {new} {s} w = within_bound s.h T.count by.i w.h_max w.h_past
+
+-- the first sample, and room for it and the others
+module _ (by : Counting) (T : Thresholds) (s : State) (xs : List ℤ) (m : Moving) (w : Within by T (length xs) s) (some : length xs ≡ 0 → ⊥)
+    (o : SFits w16 by.offset) (f : SFits w16 (get_or xs 0 (pos 0))) (b : Moving) (e : b ≡ begun s.sums)
+    (read : m ≡ moved by b (to_z w16 (of_z w16 (get_or xs 0 (pos 0))))) where
+  first : m ≡ moved by (begun s.sums) (get_or xs 0 (pos 0))
+  first = read ∙ ap₂ (moved by) e (to_z-of_z {w = w16} f)
+
+  pub first_room : Room (length xs - 1) m
+  first_room =
+      room_after by (begun s.sums) m _ 0 (length xs) (pos_of_ne-zero some) (record { k_max = w.k_max; offset_fits = o }) f first
+      (room_less _ _ (begun s.sums) (omega arith) (room_first s.sums _ w.sums w.room w.few))
+
+  pub started : (c : Counters) (band : Band) → band.list.now ≡ T → band.low ≤ m.q → m.q < band.high → s.sums.sq.low < 2 ^ 64
+      → places ≡ length c.a → places ≡ length c.h → c.a ≡ numbers_of s.a → c.h ≡ s.h → c.since ≡ each places (λ _. 0) → c.i ≡ by.i
+      → Turning by T s xs c m band 0
   unfolding zeros
-  started T a h band rises fits la lh am hm pa ph ar =
+  started c band of_list from to fits la lh same_a same_h none limit =
       record {
         within = omega arith;
         room = first_room;
-        list = rises;
-        a_length = la;
-        h_length = lh;
-        since_length = sym (list_length (λ _. 0) 0 places);
-        index = λ j. omega (arith, zeros_at j);
-        a_max = λ j. omega (arith, am j);
-        h_max = hm;
-        a_past = pa;
-        h_past = ph;
-        around = ar;
+        list = w.list;
+        of_list = of_list;
+        from = from;
+        to = to;
+        limit = limit;
+        index = λ j. omega (arith, ap (λ (l : List ℕ). get_or l j 0) none, zeros_at j);
+        a_max = λ j. omega (arith, within_bound c.a T.count s.sums.n.0 (λ i l. omega (arith, count i, w.a_max i l)) past j);
+        a_past = past;
+        h_past = past_h;
         rest =
-            ap₂ (λ (x y : List ℕ). led by T (ended b m (min (0 + 1) (length xs))) x y xs) (sym (at_first_counts T by.i band.low a h la lh pa ph)) (sym (at_first_hangovers T by.i band.low a h la lh pa ph))
-            ∙ sym (step_is by T b (ended b m (min (0 + 1) (length xs))) a h xs 0 some
-            (ended_at by b (begun b) m _ 0 (length xs) some e ∙ ap (λ (t : Sums). summed by t (get_or xs 0 (pos 0))) (ended_none b fits)));
+            ap (λ (z : List ℕ). led_by by T s.sums m band.low 0 z c.a c.h xs) none
+            ∙ ap₂ (λ (x y : List ℕ). led by T (ended s.sums m (min (0 + 1) (length xs))) x y xs) (sym (at_first_counts T by.i band.low c.a c.h la lh past past_h)) (sym (at_first_hangovers T by.i band.low c.a c.h la lh past past_h))
+            ∙ sym (step_is by T s.sums (ended s.sums m (min (0 + 1) (length xs))) c.a c.h xs 0 (pos_of_ne-zero some)
+            (ended_at by s.sums (begun s.sums) m _ 0 (length xs) (pos_of_ne-zero some) first ∙ ap (λ (t : Sums). summed by t (get_or xs 0 (pos 0))) (ended_none s.sums fits)))
+            ∙ ap (λ (x : State). state_after by T x xs) same;
       }
+    where
+      count : (j : ℕ) → get_or c.a j 0 ≡ activity s.a j
+      count j = ap (λ (l : List ℕ). get_or l j 0) same_a ∙ number_at s.a j
 
-module _ (by : Counting) (T : Thresholds) (b : Sums) (a₀ h₀ : List ℕ) (xs : List ℤ) (a h since : List ℕ) (m : Moving) (band : Band) (at : ℕ) (t : Turning by T b a₀ h₀ xs a h since m band at)
-    (all : b.n.0 + length xs ≤ most_samples) where
+      past : (j : ℕ) → T.count ≤ j → get_or c.a j 0 ≡ 0
+      past j l = count j ∙ w.a_past j l
+
+      past_h : (j : ℕ) → T.count ≤ j → get_or c.h j 0 ≡ 0
+      past_h j l = ap (λ (x : List ℕ). get_or x j 0) same_h ∙ w.h_past j l
+
+      same : state_of s.sums c.a c.h ≡ s
+      same = ap₂ (λ (x : List Samples) (y : List ℕ). record { sums = s.sums; a = x; h = y }) (ap (map samples_of) same_a ∙ typed_again s.a) same_h
+
+module _ (by : Counting) (T : Thresholds) (s : State) (xs : List ℤ) (c : Counters) (m : Moving) (band : Band) (at : ℕ) (t : Turning by T s xs c m band at)
+    (all : s.sums.n.0 + length xs ≤ most_samples) where
   -- the counters can be settled at any later index
-  pub standing : (end : ℕ) → at ≤ end → end ≤ length xs → Standing places by.i end a h since
+  pub standing : (end : ℕ) → at ≤ end → end ≤ length xs → Standing end c
   standing end l e =
       record {
-        a_length = t.a_length;
-        h_length = t.h_length;
-        since_length = t.since_length;
         index = λ j. omega (arith, t.index j);
-        room = λ j. fits (get_or a j 0) (get_or since j 0) b.n.0 end (length xs) (t.a_max j) (omega (arith, t.index j)) e all;
-        h_max = t.h_max;
+        room = λ j. fits (get_or c.a j 0) (get_or c.since j 0) s.sums.n.0 end (length xs) (t.a_max j) (omega (arith, t.index j)) e all;
       }
     where
       fits : (v s n e l : ℕ) → v ≤ n + s → s ≤ e → e ≤ l → n + l ≤ most_samples → v + (e - s) < 2 ^ 63
@@ -135,82 +169,98 @@ module _ (by : Counting) (T : Thresholds) (b : Sums) (a₀ h₀ : List ℕ) (xs 
 
   -- which thresholds the band is above
   reached : (j : ℕ) → j < T.count → leb (threshold_of T j) band.low ≡ ltb j band.below
-  reached = sides (threshold_of T) T.count t.list.rises m.q band t.around
+  reached = sides T band t.of_list t.list m.q t.from t.to
+
+  -- a settled counter, by the same limit
+  module _ (end : ℕ) (one on : ℕ → Bool) (d : Counters) (S : Settled end one on c d) where
+    settled_at : (j : ℕ) → SettledAt by.i end (one j) (on j) (get_or c.a j 0) (get_or c.h j 0) (get_or c.since j 0) (get_or d.a j 0) (get_or d.h j 0) (get_or d.since j 0)
+    settled_at j = subst (λ (i : ℕ). SettledAt i end (one j) (on j) (get_or c.a j 0) (get_or c.h j 0) (get_or c.since j 0) (get_or d.a j 0) (get_or d.h j 0) (get_or d.since j 0)) t.limit (S.each_one j)
 
   -- ---- a turn
 
-  module _ (r : Moving) (end : ℕ) (next : Band) (R : Ran by band.low band.high m xs at r end) (A : Around (threshold_of T) T.count r.q next)
-      (a' h' since' : List ℕ) (S : Settled places by.i end (λ j. between band.below next.below j || between next.below band.below j) (λ j. ltb j band.below) a h since a' h' since') where
-    same_counts : counts_by (threshold_of T) T.count by.i next.low end since' a' h' ≡ counts_by (threshold_of T) T.count by.i band.low end since a h
+  module _ (r : Moving) (end : ℕ) (next : Band) (R : Ran by band.low band.high m xs at r end) (of_list : next.list.now ≡ T) (from : next.low ≤ r.q) (to : r.q < next.high)
+      (d : Counters) (S : Settled end (λ j. between band.below next.below j || between next.below band.below j) (λ j. ltb j band.below) c d) where
+    one : (j : ℕ) → SettledAt by.i end (between band.below next.below j || between next.below band.below j) (ltb j band.below)
+        (get_or c.a j 0) (get_or c.h j 0) (get_or c.since j 0) (get_or d.a j 0) (get_or d.h j 0) (get_or d.since j 0)
+    one = settled_at end _ _ d S
+
+    same_counts : counts_by (threshold_of T) T.count by.i next.low end d.since d.a d.h ≡ counts_by (threshold_of T) T.count by.i band.low end c.since c.a c.h
     unfolding counts_by
     same_counts =
         filled_same places T.count _ _ (λ j l.
-        ap (λ (o : Bool). count_over by.i o (end - get_or since' j 0) (get_or a' j 0) (get_or h' j 0)) (sides (threshold_of T) T.count t.list.rises _ next A j l)
-        ∙ stands_count by.i end _ _ _ (get_or a j 0) (get_or h j 0) (get_or since j 0) (get_or a' j 0) (get_or h' j 0) (get_or since' j 0) (S.each_one j) (uncrossed band.below next.below j)
-        ∙ ap (λ (o : Bool). count_over by.i o (end - get_or since j 0) (get_or a j 0) (get_or h j 0)) (sym (reached j l)))
+        ap (λ (o : Bool). count_over by.i o (end - get_or d.since j 0) (get_or d.a j 0) (get_or d.h j 0)) (sides T next of_list t.list r.q from to j l)
+        ∙ stands_count by.i end _ _ _ (get_or c.a j 0) (get_or c.h j 0) (get_or c.since j 0) (get_or d.a j 0) (get_or d.h j 0) (get_or d.since j 0) (one j) (uncrossed band.below next.below j)
+        ∙ ap (λ (o : Bool). count_over by.i o (end - get_or c.since j 0) (get_or c.a j 0) (get_or c.h j 0)) (sym (reached j l)))
 
-    same_hangovers : hangovers_by (threshold_of T) T.count by.i next.low end since' h' ≡ hangovers_by (threshold_of T) T.count by.i band.low end since h
+    same_hangovers : hangovers_by (threshold_of T) T.count by.i next.low end d.since d.h ≡ hangovers_by (threshold_of T) T.count by.i band.low end c.since c.h
     unfolding hangovers_by
     same_hangovers =
         filled_same places T.count _ _ (λ j l.
-        ap (λ (o : Bool). hangover_over by.i o (end - get_or since' j 0) (get_or h' j 0)) (sides (threshold_of T) T.count t.list.rises _ next A j l)
-        ∙ stands_hangover by.i end _ _ _ (get_or a j 0) (get_or h j 0) (get_or since j 0) (get_or a' j 0) (get_or h' j 0) (get_or since' j 0) (S.each_one j) (uncrossed band.below next.below j)
-        ∙ ap (λ (o : Bool). hangover_over by.i o (end - get_or since j 0) (get_or h j 0)) (sym (reached j l)))
+        ap (λ (o : Bool). hangover_over by.i o (end - get_or d.since j 0) (get_or d.h j 0)) (sides T next of_list t.list r.q from to j l)
+        ∙ stands_hangover by.i end _ _ _ (get_or c.a j 0) (get_or c.h j 0) (get_or c.since j 0) (get_or d.a j 0) (get_or d.h j 0) (get_or d.since j 0) (one j) (uncrossed band.below next.below j)
+        ∙ ap (λ (o : Bool). hangover_over by.i o (end - get_or c.since j 0) (get_or c.h j 0)) (sym (reached j l)))
 
     unmoved : (j : ℕ) → T.count ≤ j → (between band.below next.below j || between next.below band.below j) ≡ false
-    unmoved j l = outside band.below next.below T.count j t.around.band.few A.band.few l
+    unmoved j l = outside band.below next.below T.count j (placed T band t.of_list t.list) (placed T next of_list t.list) l
 
-    pub turned : Turning by T b a₀ h₀ xs a' h' since' r next end
+    pub turned : Turning by T s xs d r next end
     turned =
         record {
           within = R.within;
           room = R.room;
           list = t.list;
-          a_length = S.a_length;
-          h_length = S.h_length;
-          since_length = S.since_length;
-          index = λ j. index_le by.i end _ _ _ _ _ _ _ _ (S.each_one j) (before j);
-          a_max = λ j. count_le by.i end _ _ _ _ _ _ _ _ (S.each_one j) b.n.0 (before j) (t.a_max j);
-          h_max = λ j. hangover_le by.i end _ _ _ _ _ _ _ _ (S.each_one j) (t.h_max j);
-          a_past = λ j l. alone_count by.i end _ _ _ _ _ _ _ _ (S.each_one j) (unmoved j l) ∙ t.a_past j l;
-          h_past = λ j l. alone_hangover by.i end _ _ _ _ _ _ _ _ (S.each_one j) (unmoved j l) ∙ t.h_past j l;
-          around = A;
+          of_list = of_list;
+          from = from;
+          to = to;
+          limit = S.same ∙ t.limit;
+          index = λ j. index_le by.i end _ _ _ _ _ _ _ _ (one j) (before j);
+          a_max = λ j. count_le by.i end _ _ _ _ _ _ _ _ (one j) s.sums.n.0 (before j) (t.a_max j);
+          a_past = λ j l. alone_count by.i end _ _ _ _ _ _ _ _ (one j) (unmoved j l) ∙ t.a_past j l;
+          h_past = λ j l. alone_hangover by.i end _ _ _ _ _ _ _ _ (one j) (unmoved j l) ∙ t.h_past j l;
           rest =
-              ap₂ (λ (x y : List ℕ). led by T (ended b r (min (end + 1) (length xs))) x y (drop end xs)) same_counts same_hangovers
-              ∙ sym (R.same T t.list.few b band.low since a h (le_refl band.low) (lt_of_le_of_lt t.around.from t.around.to) (clear (threshold_of T) T.count t.list.rises band t.around.band) t.index)
+              ap₂ (λ (x y : List ℕ). led by T (ended s.sums r (min (end + 1) (length xs))) x y (drop end xs)) same_counts same_hangovers
+              ∙ sym (R.same T t.list.few s.sums band.low c.since c.a c.h (le_refl band.low) (lt_of_le_of_lt t.from t.to) (clear T band t.of_list t.list) t.index)
               ∙ t.rest;
         }
       where
-        before : (j : ℕ) → get_or since j 0 ≤ end
+        before : (j : ℕ) → get_or c.since j 0 ≤ end
         before j = omega (arith, t.index j, R.on)
 
   -- ---- the end
 
-  module _ (a' h' since' : List ℕ) (S : Settled places by.i at (λ j. between 0 band.below j || between band.below T.count j) (λ j. ltb j band.below) a h since a' h' since') where
-    unsettled : (j : ℕ) → T.count ≤ j → (between 0 band.below j || between band.below T.count j) ≡ false
-    unsettled j l = past_all band.below T.count j t.around.band.few l
+  module _ (d : Counters) (settled : Settled at (λ j. between 0 band.below j || between band.below band.list.now.count j) (λ j. ltb j band.below) c d) where
+    S : Settled at (λ j. between 0 band.below j || between band.below T.count j) (λ j. ltb j band.below) c d
+    S = subst (λ (x : Thresholds). Settled at (λ j. between 0 band.below j || between band.below x.count j) (λ j. ltb j band.below) c d) t.of_list settled
 
-    last_counts : a' ≡ counts_by (threshold_of T) T.count by.i band.low at since a h
+    last : (j : ℕ) → SettledAt by.i at (between 0 band.below j || between band.below T.count j) (ltb j band.below)
+        (get_or c.a j 0) (get_or c.h j 0) (get_or c.since j 0) (get_or d.a j 0) (get_or d.h j 0) (get_or d.since j 0)
+    last = settled_at at _ _ d S
+
+    unsettled : (j : ℕ) → T.count ≤ j → (between 0 band.below j || between band.below T.count j) ≡ false
+    unsettled j l = past_all band.below T.count j (placed T band t.of_list t.list) l
+
+    last_counts : d.a ≡ counts_by (threshold_of T) T.count by.i band.low at c.since c.a c.h
     unfolding counts_by
     last_counts =
-        is_filled_lem places T.count a' _ S.a_length (λ j l.
-        (S.each_one j).count
-        ∙ ap (λ (b : Bool). cond b (count_over by.i (ltb j band.below) (at - get_or since j 0) (get_or a j 0) (get_or h j 0)) (get_or a j 0)) (all_places band.below T.count j l)
-        ∙ ap (λ (o : Bool). count_over by.i o (at - get_or since j 0) (get_or a j 0) (get_or h j 0)) (sym (reached j l)))
-        (λ j l. alone_count by.i at _ _ _ _ _ _ _ _ (S.each_one j) (unsettled j l) ∙ t.a_past j l)
+        is_filled_lem places T.count d.a _ (sym S.a_length) (λ j l.
+        (last j).count
+        ∙ ap (λ (b : Bool). cond b (count_over by.i (ltb j band.below) (at - get_or c.since j 0) (get_or c.a j 0) (get_or c.h j 0)) (get_or c.a j 0)) (all_places band.below T.count j l)
+        ∙ ap (λ (o : Bool). count_over by.i o (at - get_or c.since j 0) (get_or c.a j 0) (get_or c.h j 0)) (sym (reached j l)))
+        (λ j l. alone_count by.i at _ _ _ _ _ _ _ _ (last j) (unsettled j l) ∙ t.a_past j l)
 
-    last_hangovers : h' ≡ hangovers_by (threshold_of T) T.count by.i band.low at since h
+    last_hangovers : d.h ≡ hangovers_by (threshold_of T) T.count by.i band.low at c.since c.h
     unfolding hangovers_by
     last_hangovers =
-        is_filled_lem places T.count h' _ S.h_length (λ j l.
-        (S.each_one j).hangover
-        ∙ ap (λ (b : Bool). cond b (hangover_over by.i (ltb j band.below) (at - get_or since j 0) (get_or h j 0)) (get_or h j 0)) (all_places band.below T.count j l)
-        ∙ ap (λ (o : Bool). hangover_over by.i o (at - get_or since j 0) (get_or h j 0)) (sym (reached j l)))
-        (λ j l. alone_hangover by.i at _ _ _ _ _ _ _ _ (S.each_one j) (unsettled j l) ∙ t.h_past j l)
+        is_filled_lem places T.count d.h _ (sym S.h_length) (λ j l.
+        (last j).hangover
+        ∙ ap (λ (b : Bool). cond b (hangover_over by.i (ltb j band.below) (at - get_or c.since j 0) (get_or c.h j 0)) (get_or c.h j 0)) (all_places band.below T.count j l)
+        ∙ ap (λ (o : Bool). hangover_over by.i o (at - get_or c.since j 0) (get_or c.h j 0)) (sym (reached j l)))
+        (λ j l. alone_hangover by.i at _ _ _ _ _ _ _ _ (last j) (unsettled j l) ∙ t.h_past j l)
 
-    pub finished : length xs ≤ at → state_of (ended b m (length xs)) a' h' ≡ state_after by T (state_of b a₀ h₀) xs
-    finished l =
-        ap₂ (λ (x y : List ℕ). state_of (ended b m (length xs)) x y) last_counts last_hangovers
-        ∙ ap (λ (s : Sums). state_of s (counts_by (threshold_of T) T.count by.i band.low at since a h) (hangovers_by (threshold_of T) T.count by.i band.low at since h)) (sym (up_to_end b m at (length xs) l))
-        ∙ sym (none_left by T (ended b m (min (at + 1) (length xs))) _ _ xs at l)
+    pub finished : length xs ≤ at → (sums : Sums) (a : List Samples) → sums ≡ ended s.sums m (length xs) → a ≡ map samples_of d.a → record { sums = sums; a = a; h = d.h } ≡ state_after by T s xs
+    finished l sums a e f =
+        ap₂ (λ (x : Sums) (y : List Samples). record { sums = x; a = y; h = d.h }) e f
+        ∙ ap₂ (λ (x y : List ℕ). state_of (ended s.sums m (length xs)) x y) last_counts last_hangovers
+        ∙ ap (λ (x : Sums). state_of x (counts_by (threshold_of T) T.count by.i band.low at c.since c.a c.h) (hangovers_by (threshold_of T) T.count by.i band.low at c.since c.h)) (sym (up_to_end s.sums m at (length xs) l))
+        ∙ sym (none_left by T (ended s.sums m (min (at + 1) (length xs))) _ _ xs at l)
         ∙ t.rest

@@ -1,4 +1,6 @@
 -- What the functions inside this crate promise one another. Nothing here is part of what a meter promises.
 pub mod Bands
+pub mod Counters
+pub mod Over
 pub mod Runs
 pub mod Steps

@@ -1,114 +1,138 @@
 // The bands between neighbouring thresholds, and the search for the one in which the envelope lies: from
 // band to band, up or down, with one threshold read for each.
-ghost use Rattle.std.specs.Prelude.{◌≡◌, ◌≤◌, ◌<◌, get_or};
-ghost use Rattle.thresholds.specs.Lists.{places};
-ghost use Rattle.sample.specs.Inner.Bands.{low_end, high_end, IsBand, IsUp, IsDown, Around, Searchable, Fallen, Risen, Upward, Downward};
+ghost use Rattle.std.specs.Prelude.{◌≡◌, ◌+◌, ◌^◌, ◌≤◌, ◌<◌, ◌↔◌, IsTrue};
+ghost use Rattle.thresholds.specs.Lists.{places, threshold_of};
+ghost use Rattle.sample.specs.Inner.Bands.{low_end, high_end};
 
-use thresholds::PLACES;
+use thresholds::Thresholds;
 
 // What no envelope comes to: the high end of the band above the last threshold.
 const TOP: u64 = 1 << 63;
 
-// From low up to, not including, high: no threshold lies between them. So many of the thresholds are
-// at or below low.
+// From low up to, not including, high: no threshold of the list lies between them. So many of its
+// thresholds are at or below low.
 #[derive(Clone, Copy)]
-pub struct Band {
+pub struct Band<'a> {
+    pub list: &'a Thresholds,
     pub low: u64,
     pub high: u64,
     pub below: usize,
+    ghost few: { list.now.count ≤ places },
+    ghost within: { below ≤ list.now.count },
+    ghost begins: { low ≡ low_end (threshold_of list.now) below },
+    ghost ends: { high ≡ high_end (threshold_of list.now) list.now.count below },
 }
 
-impl Band {
+impl<'a> Band<'a> {
     // Below the first threshold.
-    pub fn lowest(c: &[u64; PLACES], count: usize) -> Band
-        requires { 0 < count }
-        ensures { IsBand (λ j. get_or c.now j 0) count result }
+    pub fn lowest(list: &'a Thresholds) -> Band<'a>
+        requires { (0 < list.now.count) × (list.now.count ≤ places) }
+        ensures { result.list.now ≡ list.now }
     {
         Band {
+            list,
             low: 0,
-            high: c[0],
+            high: list.at[0],
             below: 0,
         }
     }
 
+    // Whether an envelope lies in it.
+    pub fn contains(&self, q: u64) -> bool
+        ensures { IsTrue result ↔ ((self.now.low ≤ q) × (q < self.now.high)) }
+    {
+        (self.low..self.high).contains(&q)
+    }
+
     // The band around an envelope, from this one on.
-    pub fn around(self, c: &[u64; PLACES], count: usize, q: u64) -> Band
-        requires { Searchable (λ j. get_or c.now j 0) count q self }
-        ensures { Around (λ j. get_or c.now j 0) count q result }
+    pub fn around(self, q: u64) -> Band<'a>
+        requires { q ≤ 2 ^ 40 }
+        ensures list { result.list.now ≡ self.entry.list.now }
+        ensures from { result.low ≤ q }
+        ensures to { q < result.high }
     {
         if q < self.low {
-            self.fallen(c, count, q)
+            self.fallen(q)
         } else {
-            self.risen(c, count, q)
+            self.risen(q)
         }
     }
 
     // The band around an envelope that lies below this one.
-    fn fallen(self, c: &[u64; PLACES], count: usize, q: u64) -> Band
-        requires { Fallen (λ j. get_or c.now j 0) count q self }
-        ensures { Around (λ j. get_or c.now j 0) count q result }
+    fn fallen(self, q: u64) -> Band<'a>
+        requires { q < self.low }
+        ensures list { result.list.now ≡ self.entry.list.now }
+        ensures from { result.low ≤ q }
+        ensures to { q < result.high }
     {
         let mut band = self;
         while q < band.low {
-            band = band.down(c, count);
+            band = band.down();
         }
         band
     }
 
     // The band around an envelope that lies in this one or above it.
-    fn risen(self, c: &[u64; PLACES], count: usize, q: u64) -> Band
-        requires { Risen (λ j. get_or c.now j 0) count q self }
-        ensures { Around (λ j. get_or c.now j 0) count q result }
+    fn risen(self, q: u64) -> Band<'a>
+        requires { (self.low ≤ q) × (q ≤ 2 ^ 40) }
+        ensures list { result.list.now ≡ self.entry.list.now }
+        ensures from { result.low ≤ q }
+        ensures to { q < result.high }
     {
         let mut band = self;
         while band.high <= q {
-            band = band.up(c, count);
+            band = band.up();
         }
         band
     }
 
     // The next band above.
-    fn up(self, c: &[u64; PLACES], count: usize) -> Band
-        requires { Upward (λ j. get_or c.now j 0) count self }
-        ensures { IsUp (λ j. get_or c.now j 0) count self result }
+    fn up(self) -> Band<'a>
+        requires { self.below < self.list.now.count }
+        ensures list { result.list.now ≡ self.entry.list.now }
+        ensures from { result.low ≡ self.entry.high }
+        ensures place { result.below ≡ self.entry.below + 1 }
     {
-        let p = self.below + 1;
+        let below = self.below + 1;
         Band {
+            list: self.list,
             low: self.high,
-            high: high_end(c, count, p),
-            below: p,
+            high: high_end(self.list, below),
+            below,
         }
     }
 
     // The next band below.
-    fn down(self, c: &[u64; PLACES], count: usize) -> Band
-        requires { Downward (λ j. get_or c.now j 0) count self }
-        ensures { IsDown (λ j. get_or c.now j 0) count self result }
+    fn down(self) -> Band<'a>
+        requires { 0 < self.below }
+        ensures list { result.list.now ≡ self.entry.list.now }
+        ensures to { result.high ≡ self.entry.low }
+        ensures place { result.below + 1 ≡ self.entry.below }
     {
-        let p = self.below - 1;
+        let below = self.below - 1;
         Band {
-            low: low_end(c, p),
+            list: self.list,
+            low: low_end(self.list, below),
             high: self.low,
-            below: p,
+            below,
         }
     }
 }
 
 // Where the band with so many thresholds below it ends.
-fn high_end(c: &[u64; PLACES], count: usize, p: usize) -> u64
-    requires { count ≤ places }
-    ensures { result ≡ high_end (λ j. get_or c.now j 0) count p }
+#[tactic(auto, using(crate::proofs::Bands::ends_at, crate::proofs::Bands::ends_nowhere))]
+fn high_end(list: &Thresholds, below: usize) -> u64
+    requires { list.now.count ≤ places }
+    ensures { result ≡ high_end (threshold_of list.now) list.now.count below }
 {
-    if p < count { c[p] } else { TOP }
+    if below < list.count { list.at[below] } else { TOP }
 }
 
 // And where it begins.
-fn low_end(c: &[u64; PLACES], p: usize) -> u64
-    requires { p ≤ places }
-    ensures { result ≡ low_end (λ j. get_or c.now j 0) p }
+#[tactic(auto, using(crate::proofs::Bands::one_less, crate::proofs::Bands::from_none))]
+fn low_end(list: &Thresholds, below: usize) -> u64
+    requires { below ≤ places }
+    ensures { result ≡ low_end (threshold_of list.now) below }
 {
-    if p == 0 {
-        return 0;
-    }
-    c[p - 1]
+    if below == 0 { 0 } else { list.at[below - 1] }
 }

@@ -1,102 +1,84 @@
 // The counters, one for each threshold. Each stands as it was at an index of its own, from which on the
 // envelope has been on one side of its threshold; settling brings it up to date.
-ghost use Rattle.std.specs.Prelude.{◌||◌, ◌≡◌, ◌≤◌, min, ltb};
+ghost use Rattle.std.specs.Prelude.{◌||◌, ◌≡◌, ℕ, ◌+◌, ◌^◌, ◌≤◌, ◌<◌, ltb, get_or};
 ghost use Rattle.thresholds.specs.Lists.{places};
-ghost use Rattle.sample.specs.Inner.Runs.{Crossable, Standing, Settled, Countable, between, count_over, hangover_over};
+ghost use Rattle.sample.specs.Inner.Over.{count_over, hangover_over, between};
 
+use crate::band::Band;
 use thresholds::PLACES;
 
-// The envelope, which was at or above so many of the thresholds, is now at or above so many: settles
-// the counters of those in between. Where it rose it was below them until now, else at or above them.
-pub fn cross(
-    a: &mut [u64; PLACES],
-    h: &mut [u64; PLACES],
-    since: &mut [u64; PLACES],
-    was: usize,
-    is: usize,
-    at: u64,
-    hangover: u64,
-)
-    requires { Crossable places hangover at was is a.old h.old since.old }
-    ensures { Settled places hangover at (λ j. between was is j || between is was j) (λ j. ltb j was) a.old h.old since.old a.new h.new since.new }
-{
-    if was < is {
-        settle(a, h, since, was, is, false, at, hangover);
-    } else {
-        settle(a, h, since, is, was, true, at, hangover);
+// The counts, the hangovers, which are at most I, and the indices.
+#[derive(Drop)]
+pub struct Counters {
+    pub a: [u64; PLACES],
+    pub h: [u64; PLACES],
+    pub since: [u64; PLACES],
+    pub i: u64,
+    ghost h_max: { (j : ℕ) → get_or h j 0 ≤ i },
+}
+
+impl Counters {
+    ghost use Rattle.sample.specs.Inner.Counters.{Standing, Settled};
+
+    // The envelope, which was in one band, is now in another: settles the counters of the thresholds in
+    // between. Where it rose it was below them until now, else at or above them.
+    pub fn cross(&mut self, was: Band<'_>, is: Band<'_>, at: u64)
+        requires { Standing at self.old }
+        ensures { Settled at (λ j. between was.entry.below is.entry.below j || between is.entry.below was.entry.below j) (λ j. ltb j was.entry.below) self.old self.new }
+    {
+        if was.below < is.below {
+            self.settle(was.below, is.below, false, at);
+        } else {
+            self.settle(is.below, was.below, true, at);
+        }
+    }
+
+    // Settles all of them, with the envelope in a band.
+    pub fn finish(&mut self, band: Band<'_>, at: u64)
+        requires { Standing at self.old }
+        ensures { Settled at (λ j. between 0 band.entry.below j || between band.entry.below band.entry.list.now.count j) (λ j. ltb j band.entry.below) self.old self.new }
+    {
+        self.settle(0, band.below, true, at);
+        self.settle(band.below, band.list.count, false, at);
+    }
+
+    // Settles the counters from one place up to another, where the envelope was at or above their
+    // thresholds, or below them.
+    fn settle(&mut self, from: usize, to: usize, on: bool, at: u64)
+        requires standing { Standing at self.old }
+        requires places { (from ≤ to) × (to ≤ places) }
+        ensures { Settled at (λ j. between from to j) (λ _. on) self.old self.new }
+    {
+        for j in from..to {
+            let run = at - self.since[j];
+            self.a[j] = counted(self.i, on, run, self.a[j], self.h[j]);
+            self.h[j] = hung(self.i, on, run, self.h[j]);
+            self.since[j] = at;
+        }
     }
 }
 
-// Settles all of them.
-pub fn finish(
-    a: &mut [u64; PLACES],
-    h: &mut [u64; PLACES],
-    since: &mut [u64; PLACES],
-    was: usize,
-    count: usize,
-    at: u64,
-    hangover: u64,
-)
-    requires { Crossable places hangover at was count a.old h.old since.old }
-    ensures { Settled places hangover at (λ j. between 0 was j || between was count j) (λ j. ltb j was) a.old h.old since.old a.new h.new since.new }
-{
-    settle(a, h, since, 0, was, true, at, hangover);
-    settle(a, h, since, was, count, false, at, hangover);
-}
-
-// Settles the counters from one place up to another, where the envelope was at or above their
-// thresholds, or below them.
-fn settle(
-    a: &mut [u64; PLACES],
-    h: &mut [u64; PLACES],
-    since: &mut [u64; PLACES],
-    from: usize,
-    to: usize,
-    on: bool,
-    at: u64,
-    hangover: u64,
-)
-    requires { Standing places hangover at a.old h.old since.old × (to ≤ places) }
-    ensures { Settled places hangover at (λ j. between from to j) (λ _. on) a.old h.old since.old a.new h.new since.new }
-{
-    let mut j = from;
-    while j < to {
-        let aj = a[j];
-        let hj = h[j];
-        let run = at - since[j];
-        a[j] = counted(hangover, on, run, aj, hj);
-        h[j] = hung(hangover, on, run, hj);
-        since[j] = at;
-        j += 1;
-    }
-}
-
+#[tactic(auto, using(crate::proofs::Over::on_count, crate::proofs::Over::off_count))]
 // A count after a run: every sample of it counts while the envelope is on, else those that the
 // hangover has left.
-fn counted(hangover: u64, on: bool, run: u64, a: u64, h: u64) -> u64
-    requires { Countable hangover run a h }
-    ensures { result ≡ count_over hangover on run a h }
+fn counted(i: u64, on: bool, run: u64, a: u64, h: u64) -> u64
+    requires { (a + run < 2 ^ 63) × (h ≤ i) }
+    ensures { result ≡ count_over i on run a h }
 {
-    if on {
-        a + run
-    } else {
-        a + least(run, hangover - h)
-    }
+    if on { a + run } else { a + run.min(i - h) }
 }
 
+#[tactic(auto, using(crate::proofs::Over::on_hangover, crate::proofs::Over::off_hangover, crate::proofs::Over::no_hangover))]
 // A hangover after a run. A run may be empty.
-fn hung(hangover: u64, on: bool, run: u64, h: u64) -> u64
-    requires { h ≤ hangover }
-    ensures { result ≡ hangover_over hangover on run h }
+fn hung(i: u64, on: bool, run: u64, h: u64) -> u64
+    requires { h ≤ i }
+    ensures { result ≡ hangover_over i on run h }
 {
     if !on {
-        return h + least(run, hangover - h);
+        h + run.min(i - h)
+    } else if run == 0 {
+        h
+    } else {
+        0
     }
-    if run == 0 { h } else { 0 }
-}
-
-fn least(x: u64, y: u64) -> u64
-    ensures { result ≡ min x y }
-{
-    if x < y { x } else { y }
 }

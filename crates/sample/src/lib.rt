@@ -9,7 +9,6 @@
 
 mod band;
 mod counters;
-mod plain;
 mod runs;
 mod step;
 
@@ -18,8 +17,9 @@ ghost use Rattle.sample.specs.Sample.{state_after};
 ghost use Rattle.sample.specs.StateAfter.{Within};
 
 use band::Band;
+use counters::Counters;
 use level::{Samples, Squares};
-pub use plain::counts;
+use runs::run_on;
 use thresholds::{PLACES, Thresholds};
 
 // What counting goes by: the rate's K and I, and the offset.
@@ -54,32 +54,30 @@ impl State {
         requires { Within by list (length xs.now) self }
         ensures { result ≡ state_after by list self xs.now }
     {
-        if xs.len() == 0 {
+        if xs.is_empty() {
             return self;
         }
-        let mut moving = self.sums.begin().step(by, xs[0]);
-        let count = list.count;
-        let mut band = Band::lowest(&list.at, count).around(&list.at, count, moving.q);
-        let counts = self.a;
-        let mut a = plain::numbers(counts);
-        let mut h = self.h;
-        let mut since = [0u64; PLACES];
+        let State { sums, a, h } = self;
+        let mut moving = sums.begin().step(by, xs[0]);
+        let mut band = Band::lowest(&list).around(moving.q);
+        let a = a.map(Samples::count);
+        let since = [0; PLACES];
+        let mut counters = Counters { a, h, since, i: by.i };
         let mut at = 0;
         while at < xs.len() {
-            let run = runs::run_on(moving, by, band, xs, at);
+            let run = run_on(moving, by, band, xs, at);
             at = run.end;
             moving = run.last;
-            let next = band.around(&list.at, count, moving.q);
-            counters::cross(
-                &mut a, &mut h, &mut since, band.below, next.below, at as u64, by.i,
-            );
+            let next = band.around(moving.q);
+            counters.cross(band, next, at as u64);
             band = next;
         }
-        let end = at as u64;
-        counters::finish(&mut a, &mut h, &mut since, band.below, count, end, by.i);
+        counters.finish(band, at as u64);
+        let Counters { a, h, .. } = counters;
+        let a = a.map(Samples::of);
         State {
-            sums: self.sums.end(moving, xs.len()),
-            a: plain::counts(a),
+            sums: sums.end(moving, xs.len()),
+            a,
             h,
         }
     }

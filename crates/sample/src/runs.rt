@@ -15,21 +15,19 @@ pub struct Run {
 
 // From what the sample at index `at` left, with the envelope in the band, over the samples after it,
 // while the envelope stays in the band.
-pub fn run_on(first: Moving, by: Counting, band: Band, xs: &[i16], at: usize) -> Run
+pub fn run_on(first: Moving, by: Counting, band: Band<'_>, xs: &[i16], at: usize) -> Run
     requires { Runnable by first band.low band.high xs.now at }
-    ensures { Ran by band.low band.high first xs.now at result.last result.end }
+    ensures { Ran by band.entry.low band.entry.high first xs.now at result.last result.end }
 {
     let mut last = first;
-    let mut next = at + 1;
-    while next < xs.len() {
-        last = last.step(by, xs[next]);
-        if last.q < band.low {
-            return Run { last, end: next };
+    for end in at + 1..xs.len() {
+        last = last.step(by, xs[end]);
+        if !band.contains(last.q) {
+            return Run { last, end };
         }
-        if band.high <= last.q {
-            return Run { last, end: next };
-        }
-        next += 1;
     }
-    Run { last, end: next }
+    Run {
+        last,
+        end: xs.len(),
+    }
 }

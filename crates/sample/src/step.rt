@@ -1,7 +1,7 @@
 // What moves at each new sample, begun from the sums before them all and ended in those after.
-ghost use Rattle.std.specs.Prelude.{◌≡◌, ◌+ℤ◌};
-ghost use Rattle.sample.specs.Envelope.{smooth};
-ghost use Rattle.sample.specs.Inner.Steps.{begun, moved, ended, Steppable, Endable, Smoothable, Addable, Rectified};
+ghost use Rattle.std.specs.Prelude.{◌≡◌, ◌^◌, ◌<◌, ◌+ℤ◌};
+ghost use Rattle.sample.specs.Envelope.{smooth, size};
+ghost use Rattle.sample.specs.Inner.Steps.{begun, moved, ended, Steppable, Endable, Smoothable, Addable};
 
 use crate::{Counting, Sums};
 use level::Samples;
@@ -23,6 +23,7 @@ pub struct Moving {
 
 impl Moving {
     // After a sample.
+    #[tactic(auto, using(crate::proofs::Envelope::smooth_le), unfolding(crate::specs::Inner::Steps::moved, crate::specs::Envelope::rectified))]
     pub fn step(self, by: Counting, x: i16) -> Moving
         requires { Steppable by.k self }
         ensures { result ≡ moved by self x }
@@ -54,31 +55,32 @@ impl Sums {
     }
 
     // After so many new samples, which left `last`.
+    #[tactic(auto, using(level::proofs::Words::grown_is))]
     pub(crate) fn end(self, last: Moving, new: usize) -> Sums
         requires { Endable self new }
         ensures { result ≡ ended self last new }
     {
-        let sq = self.sq;
         Sums {
             n: Samples::of(self.n.count() + new as u64),
             s: last.s,
-            sq: sq.grown(last.sq),
+            sq: self.sq.grown(last.sq),
             p: last.p,
             q: last.q,
         }
     }
 }
 
-// |x − o|, in a wider type: it reaches 65535.
+// |x − o|, which reaches 65535.
+#[tactic(auto, unfolding(crate::specs::Envelope::size))]
 fn rectified(offset: i16, x: i16) -> u64
-    ensures { Rectified offset x result }
+    ensures size { result ≡ size offset x }
+    ensures small { result < 2 ^ 16 }
 {
-    let from = offset as i64;
-    let wide = x as i64;
-    signed::magnitude(wide - from)
+    u64::from(x.abs_diff(offset))
 }
 
 // One step of smoothing, rounded down.
+#[tactic(auto, unfolding(crate::specs::Envelope::smooth))]
 fn smoothed(k: u64, old: u64, new: u64) -> u64
     requires { Smoothable k old new }
     ensures { result ≡ smooth k old new }
@@ -91,6 +93,5 @@ fn added(s: i64, x: i16) -> i64
     requires { Addable s }
     ensures { result ≡ s +ℤ x }
 {
-    let wide = x as i64;
-    s + wide
+    s + i64::from(x)
 }

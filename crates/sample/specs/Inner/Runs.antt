@@ -1,6 +1,6 @@
 -- What the functions inside this crate promise one another about runs of samples. Counts are plain numbers here. c are the thresholds and k is how
 -- many there are.
-use Rattle.std.specs.Prelude.{Bool, cond, ◌&&◌, List, [], ◌∷◌, map, ◌≡◌, ℕ, zero, suc, ◌+◌, ◌-◌, ◌^◌, ◌≤◌, ◌<◌, min, leb, ltb, ℤ, length, get_or, drop}
+use Rattle.std.specs.Prelude.{List, [], ◌∷◌, map, ◌≡◌, ℕ, ◌+◌, ◌-◌, ◌≤◌, ◌<◌, min, leb, ℤ, length, get_or, drop}
 use Rattle.level.specs.declared.Samples.{Samples}
 use Rattle.level.specs.Types.{samples_of}
 use Rattle.thresholds.specs.declared.Thresholds.{Thresholds}
@@ -9,20 +9,12 @@ use Rattle.sample.specs.declared.Counting.{Counting}
 use Rattle.sample.specs.declared.Sums.{Sums}
 use Rattle.sample.specs.declared.State.{State}
 use Rattle.sample.specs.declared.step.Moving.{Moving}
-use Rattle.sample.specs.Activity.{counted, hung}
+use Rattle.sample.specs.Activity.{counted}
 use Rattle.sample.specs.Envelope.{smoothing}
 use Rattle.sample.specs.Sample.{each, up_to, hangovers, state_after}
 use Rattle.sample.specs.Inner.Bands.{Clear}
+use Rattle.sample.specs.Inner.Over.{count_over, hangover_over}
 use Rattle.sample.specs.Inner.Steps.{ended, Room}
-
--- one counter after d samples on the same side of its threshold
-unfoldable pub hangover_over : (I : ℕ) (on : Bool) (d h : ℕ) → ℕ
-hangover_over I on zero h = h
-hangover_over I on (suc d) h = hung I on (hangover_over I on d h)
-
-unfoldable pub count_over : (I : ℕ) (on : Bool) (d a h : ℕ) → ℕ
-count_over I on zero a h = a
-count_over I on (suc d) a h = counted I on (count_over I on d a h) (hangover_over I on d h)
 
 -- the counts after a sample that left the envelope at Q
 unfoldable pub plain_counts : (c : ℕ → ℕ) (k I Q : ℕ) (a h : List ℕ) → List ℕ
@@ -35,51 +27,9 @@ counts_by c k I Q i since a h = each places (up_to k (λ j. count_over I (leb (c
 unfoldable pub hangovers_by : (c : ℕ → ℕ) (k I Q i : ℕ) (since h : List ℕ) → List ℕ
 hangovers_by c k I Q i since h = each places (up_to k (λ j. hangover_over I (leb (c j) Q) (i - get_or since j 0) (get_or h j 0)))
 
--- counters that can be settled at an index: the counts have room for the samples since
-pub record Standing (k I at : ℕ) (a h since : List ℕ) : Type 0 where
-  pub a_length : k ≡ length a
-  pub h_length : k ≡ length h
-  pub since_length : k ≡ length since
-  pub index : (j : ℕ) → get_or since j 0 ≤ at
-  pub room : (j : ℕ) → get_or a j 0 + (at - get_or since j 0) < 2 ^ 63
-  pub h_max : (j : ℕ) → get_or h j 0 ≤ I
-
--- and the places of two bands are among theirs
-pub record Crossable (k I at was is : ℕ) (a h since : List ℕ) : Type 0 where
-  pub standing : Standing k I at a h since
-  pub was_max : was ≤ k
-  pub is_max : is ≤ k
-
--- a count and a hangover that a run can be added to
-pub record Countable (I run a h : ℕ) : Type 0 where
-  pub room : a + run < 2 ^ 63
-  pub h_max : h ≤ I
-
--- one counter, settled at an index where it is one of those to be settled, else left alone. `on` says whether the envelope was at or above its
--- threshold
-pub record SettledAt (I at : ℕ) (one on : Bool) (a h since a' h' since' : ℕ) : Type 0 where
-  pub count : a' ≡ cond one (count_over I on (at - since) a h) a
-  pub hangover : h' ≡ cond one (hangover_over I on (at - since) h) h
-  pub index : since' ≡ cond one at since
-
--- all of them, by their places
-pub record Settled (k I at : ℕ) (one on : ℕ → Bool) (a h since a' h' since' : List ℕ) : Type 0 where
-  pub a_length : k ≡ length a'
-  pub h_length : k ≡ length h'
-  pub since_length : k ≡ length since'
-  pub each_one : (j : ℕ) → SettledAt I at (one j) (on j) (get_or a j 0) (get_or h j 0) (get_or since j 0) (get_or a' j 0) (get_or h' j 0) (get_or since' j 0)
-
--- whether j is from one place up to another
-unfoldable pub between : (from to j : ℕ) → Bool
-between from to j = leb from j && ltb j to
-
 -- plain numbers from counts of samples
 abbrev pub numbers_of : List Samples → List ℕ
 numbers_of a = map (λ (n : Samples). n.0) a
-
-pub record Numbers (a : List Samples) (r : List ℕ) : Type 0 where
-  pub are : r ≡ numbers_of a
-  pub many : length r ≡ places
 
 -- a state, from plain counts
 abbrev pub state_of : Sums → List ℕ → List ℕ → State

@@ -49,8 +49,3 @@ pub record Smoothable (K old new : ℕ) : Type 0 where
 -- a sum that a sample can be added to
 abbrev pub Addable : ℤ → Type 0
 Addable s = nat_abs s ≤ 2 ^ 63 - 2 ^ 15
-
--- the size of a sample at an offset
-pub record Rectified (o x : ℤ) (r : ℕ) : Type 0 where
-  pub is : r ≡ size o x
-  pub small : r ≤ 2 ^ 16

@@ -4,7 +4,7 @@ use Rattle.sample.proofs.Turning.{Turning}
 use Rattle.sample.proofs.State.after.Given as goal
 
 abbrev pub invariant-loop-at : goal.invariant-loop-at
-invariant-loop-at l = Turning l.by l.list l.self.sums l.initial.a l.initial.h l.xs l.a l.h l.since l.moving l.band l.at
+invariant-loop-at l = Turning l.by l.fn.list l.fn.self l.xs l.counters l.moving l.band l.at
 
 abbrev pub decreases-loop-at : goal.decreases-loop-at
 decreases-loop-at l = length l.xs - l.at

@@ -1,13 +1,9 @@
 -- A band ends where the one above it begins.
-use Rattle.std.proofs.Common.{refl, ◌∙◌, arith}
+use Rattle.std.proofs.Common.{◌∙◌, rules}
 use Rattle.sample.proofs.Bands.{down_high}
 use Rattle.sample.proofs.band.Band.down.Goals as goal
 
-pub returns : goal.returns
-returns c =
-    let b = c.requires.band in
-    record {
-      band = record { few = omega (arith, b.few); low = c.low_end.ensures; high = b.low ∙ down_high _ _ _ c.requires.more b.few };
-      to = refl;
-      place = omega (arith, c.requires.more);
-    }
+pub invariant_of-result : goal.invariant_of-result
+invariant_of-result c =
+    let b = c.args.self in
+    record { few = search rules; within = search rules; begins = c.low_end.ensures; ends = b.begins ∙ down_high _ _ _ c.requires b.within }

@@ -1,9 +1,9 @@
 -- There is a first threshold, and none below it.
-use Rattle.std.proofs.Common.{refl, sym, arith}
+use Rattle.std.proofs.Common.{refl, sym, rules}
 use Rattle.sample.specs.Inner.Bands.{low_end}
 use Rattle.sample.proofs.Bands.{ends_at}
 use Rattle.sample.proofs.band.Band.lowest.Goals as goal
 
-pub returns : goal.returns
+pub invariant_of-result : goal.invariant_of-result
 unfolding low_end
-returns c = record { few = omega arith; low = refl; high = sym (ends_at _ _ 0 c.requires) }
+invariant_of-result c = record { few = search rules; within = search rules; begins = refl; ends = sym (ends_at _ _ 0 c.requires.0) }
