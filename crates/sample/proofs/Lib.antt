@@ -1,9 +1,9 @@
 pub mod Activity
 mod Bands
+mod Counts
 pub mod Envelope
 mod Moved
 mod Over
-mod Numbers
 mod Ran
 mod Settling
 pub mod Signs

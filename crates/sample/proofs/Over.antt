@@ -10,11 +10,14 @@ use borrow.Author.Tests.{ltb-true, ltb-false, le-leb, lt-leb}
 use lib.Dec.{leb, ltb}
 use lib.ListN.{get_or}
 use Rattle.sample.specs.Activity.{counted, hung}
-use Rattle.sample.specs.Sample.{hangovers}
+use Rattle.sample.specs.Sample.{counts, hangovers}
 use Rattle.sample.specs.Inner.Bands.{Clear}
 use Rattle.sample.specs.Inner.Over.{count_over, hangover_over}
-use Rattle.sample.specs.Inner.Runs.{plain_counts, counts_by, hangovers_by}
+use Rattle.sample.specs.Inner.Runs.{counts_by, hangovers_by}
+use Rattle.level.specs.declared.Samples.{Samples}
+use Rattle.level.specs.Types.{activity}
 use Rattle.sample.proofs.Activity.{counted_le, hung_le}
+use Rattle.sample.proofs.Counts.{count_at, counts_same}
 use Rattle.thresholds.specs.Lists.{places}
 use Rattle.thresholds.proofs.Places.{filled_at, filled_same}
 
@@ -109,7 +112,7 @@ same_side c k low high Q R clear lq qh lr rh j b =
 
 -- ---- one sample more, at an envelope q on the same sides as Q
 
-module _ (c : ℕ → ℕ) (k : ℕ) (few : k ≤ places) (I Q q i : ℕ) (since a h : List ℕ) (s : (j : ℕ) → j < k → leb (c j) q ≡ leb (c j) Q) (before : (j : ℕ) → get_or since j 0 ≤ i) where
+module _ (c : ℕ → ℕ) (k : ℕ) (few : k ≤ places) (I Q q i : ℕ) (since : List ℕ) (a : List Samples) (h : List ℕ) (s : (j : ℕ) → j < k → leb (c j) q ≡ leb (c j) Q) (before : (j : ℕ) → get_or since j 0 ≤ i) where
   later : (j : ℕ) → i + 1 - get_or since j 0 ≡ suc (i - get_or since j 0)
   later j = omega (arith, before j)
 
@@ -120,10 +123,10 @@ module _ (c : ℕ → ℕ) (k : ℕ) (few : k ≤ places) (I Q q i : ℕ) (since
       ap₂ (λ (b : Bool) (x : ℕ). hung I b x) (s j l) (filled_at places k _ j few l)
       ∙ sym (ap (λ (d : ℕ). hangover_over I (leb (c j) Q) d (get_or h j 0)) (later j)))
 
-  pub one_counts : plain_counts c k I q (counts_by c k I Q i since a h) (hangovers_by c k I Q i since h) ≡ counts_by c k I Q (i + 1) since a h
-  unfolding plain_counts counts_by hangovers_by count_over
+  pub one_counts : counts c k I q (counts_by c k I Q i since a h) (hangovers_by c k I Q i since h) ≡ counts_by c k I Q (i + 1) since a h
+  unfolding counts counts_by hangovers_by count_over
   one_counts =
-      filled_same places k _ _ (λ j l.
-      ap₂ (λ (x y : ℕ). counted I (leb (c j) q) x y) (filled_at places k _ j few l) (filled_at places k _ j few l)
-      ∙ ap (λ (b : Bool). counted I b (count_over I (leb (c j) Q) (i - get_or since j 0) (get_or a j 0) (get_or h j 0)) (hangover_over I (leb (c j) Q) (i - get_or since j 0) (get_or h j 0))) (s j l)
-      ∙ sym (ap (λ (d : ℕ). count_over I (leb (c j) Q) d (get_or a j 0) (get_or h j 0)) (later j)))
+      counts_same k _ _ (λ j l.
+      ap₂ (λ (x y : ℕ). counted I (leb (c j) q) x y) (count_at k _ j few l) (filled_at places k _ j few l)
+      ∙ ap (λ (b : Bool). counted I b (count_over I (leb (c j) Q) (i - get_or since j 0) (activity a j) (get_or h j 0)) (hangover_over I (leb (c j) Q) (i - get_or since j 0) (get_or h j 0))) (s j l)
+      ∙ sym (ap (λ (d : ℕ). count_over I (leb (c j) Q) d (activity a j) (get_or h j 0)) (later j)))

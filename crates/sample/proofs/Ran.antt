@@ -1,5 +1,5 @@
 -- A run, sample by sample: begun, gone on with, left, and ended with the samples.
-use mathlib.Core.List.{List, ◌∷◌, map}
+use mathlib.Core.List.{List, ◌∷◌}
 use mathlib.Core.Path.{◌≡◌, ap, ap₂, ◌∙◌, sym}
 use Prim.Native.Nat.{ℕ, ◌+◌, ◌-◌, ◌≤◌, ◌<◌, min}
 use native.Mathlib.Numerals.{add-one}
@@ -11,7 +11,6 @@ use mir.Facts.{to_z-of_z}
 use mir.Syntax.{w16}
 use mir.Val.{SFits}
 use Rattle.std.proofs.Common.{to_z, of_z, refl, subst}
-use Rattle.level.specs.Types.{samples_of}
 use Rattle.thresholds.specs.declared.Thresholds.{Thresholds}
 use Rattle.thresholds.specs.Lists.{places, threshold_of}
 use Rattle.level.specs.declared.Samples.{Samples}
@@ -23,42 +22,41 @@ use Rattle.sample.specs.Envelope.{smoothing}
 use Rattle.sample.specs.Sample.{summed, counts, hangovers, state_after_one, state_after}
 use Rattle.sample.specs.Inner.Steps.{moved, ended, Room}
 use Rattle.sample.specs.Inner.Bands.{Clear}
-use Rattle.sample.specs.Inner.Runs.{plain_counts, counts_by, hangovers_by, state_of, led, led_by, Runnable, Ran}
+use Rattle.sample.specs.Inner.Runs.{counts_by, hangovers_by, state_of, led, led_by, Runnable, Ran}
 use Rattle.sample.proofs.Moved.{Sized, up_to, ended_at, room_less, room_after}
 use Rattle.sample.proofs.Over.{same_side, one_counts, one_hangovers}
-use Rattle.sample.proofs.Numbers.{counts_plain}
 
 split : (xs : List ℤ) (i : ℕ) → i < length xs → drop i xs ≡ get_or xs i (pos 0) ∷ drop (i + 1) xs
 split xs i h = rw add-one (drop-cons xs i (pos 0) h)
 
 -- a sample of the definition goes into the sums first
-pub step_is : (by : Counting) (t : Thresholds) (m r : Sums) (a h : List ℕ) (xs : List ℤ) (i : ℕ) → i < length xs → r ≡ summed by m (get_or xs i (pos 0))
+pub step_is : (by : Counting) (t : Thresholds) (m r : Sums) (a : List Samples) (h : List ℕ) (xs : List ℤ) (i : ℕ) → i < length xs → r ≡ summed by m (get_or xs i (pos 0))
     → state_after by t (state_of m a h) (drop i xs) ≡ led by t r a h (drop i xs)
 unfolding state_after state_after_one led
 step_is by t m r a h xs i l e =
     ap (state_after by t (state_of m a h)) (split xs i l)
     ∙ ap₂
     (λ (n : Sums) (c : List Samples). state_after by t (record { sums = n; a = c; h = hangovers (threshold_of t) t.count by.i n.q h }) (drop (i + 1) xs))
-    (sym e) (ap (λ (n : Sums). counts (threshold_of t) t.count by.i n.q (map samples_of a) h) (sym e) ∙ counts_plain (threshold_of t) t.count by.i r.q a h)
+    (sym e) (ap (λ (n : Sums). counts (threshold_of t) t.count by.i n.q a h) (sym e))
     ∙ ap (led by t r a h) (sym (split xs i l))
 
 -- and then into the counters
-count_is : (by : Counting) (t : Thresholds) (r : Sums) (a h : List ℕ) (xs : List ℤ) (i : ℕ) → i < length xs
-    → led by t r a h (drop i xs) ≡ state_after by t (state_of r (plain_counts (threshold_of t) t.count by.i r.q a h) (hangovers (threshold_of t) t.count by.i r.q h)) (drop (i + 1) xs)
+count_is : (by : Counting) (t : Thresholds) (r : Sums) (a : List Samples) (h : List ℕ) (xs : List ℤ) (i : ℕ) → i < length xs
+    → led by t r a h (drop i xs) ≡ state_after by t (state_of r (counts (threshold_of t) t.count by.i r.q a h) (hangovers (threshold_of t) t.count by.i r.q h)) (drop (i + 1) xs)
 unfolding led
 count_is by t r a h xs i l = ap (led by t r a h) (split xs i l)
 
 -- past the last sample nothing changes
-pub none_left : (by : Counting) (t : Thresholds) (m : Sums) (a h : List ℕ) (xs : List ℤ) (i : ℕ) → length xs ≤ i → led by t m a h (drop i xs) ≡ state_of m a h
+pub none_left : (by : Counting) (t : Thresholds) (m : Sums) (a : List Samples) (h : List ℕ) (xs : List ℤ) (i : ℕ) → length xs ≤ i → led by t m a h (drop i xs) ≡ state_of m a h
 unfolding led
 none_left by t m a h xs i l = ap (led by t m a h) (drop_of_length-le xs l)
 
-no_more : (by : Counting) (t : Thresholds) (m : Sums) (a h : List ℕ) (xs : List ℤ) (i : ℕ) → length xs ≤ i → state_after by t (state_of m a h) (drop i xs) ≡ led by t m a h (drop i xs)
+no_more : (by : Counting) (t : Thresholds) (m : Sums) (a : List Samples) (h : List ℕ) (xs : List ℤ) (i : ℕ) → length xs ≤ i → state_after by t (state_of m a h) (drop i xs) ≡ led by t m a h (drop i xs)
 unfolding state_after
 no_more by t m a h xs i l = ap (state_after by t (state_of m a h)) (drop_of_length-le xs l) ∙ sym (none_left by t m a h xs i l)
 
 -- the state at index i, before the sample there: sums that were b and are now at r, and counters that stand for an envelope Q
-abbrev standing_at : Counting → Thresholds → (b : Sums) → Moving → (Q i : ℕ) (since a h : List ℕ) → State
+abbrev standing_at : Counting → Thresholds → (b : Sums) → Moving → (Q i : ℕ) (since : List ℕ) (a : List Samples) (h : List ℕ) → State
 standing_at by t b r Q i since a h =
     state_of (ended b r i) (counts_by (threshold_of t) t.count by.i Q i since a h) (hangovers_by (threshold_of t) t.count by.i Q i since h)
 
@@ -67,11 +65,11 @@ pub record Going (by : Counting) (low high : ℕ) (m : Moving) (xs : List ℤ) (
   pub on : at < i
   pub within : i ≤ length xs
   pub room : Room (length xs - i) r
-  pub same : (t : Thresholds) → t.count ≤ places → (b : Sums) (Q : ℕ) (since a h : List ℕ) → low ≤ Q → Q < high → Clear (threshold_of t) t.count low high → ((j : ℕ) → get_or since j 0 ≤ at)
+  pub same : (t : Thresholds) → t.count ≤ places → (b : Sums) (Q : ℕ) (since : List ℕ) (a : List Samples) (h : List ℕ) → low ≤ Q → Q < high → Clear (threshold_of t) t.count low high → ((j : ℕ) → get_or since j 0 ≤ at)
       → led_by by t b m Q at since a h xs ≡ state_after by t (standing_at by t b r Q i since a h) (drop i xs)
 
 -- a sample whose envelope is in the band counts where each counter stands
-counted_on : (by : Counting) (t : Thresholds) (few : t.count ≤ places) (low high Q : ℕ) (b : Sums) (r : Moving) (since a h : List ℕ) (xs : List ℤ) (i : ℕ) → i < length xs → low ≤ r.q → r.q < high → low ≤ Q → Q < high → Clear (threshold_of t) t.count low high
+counted_on : (by : Counting) (t : Thresholds) (few : t.count ≤ places) (low high Q : ℕ) (b : Sums) (r : Moving) (since : List ℕ) (a : List Samples) (h : List ℕ) (xs : List ℤ) (i : ℕ) → i < length xs → low ≤ r.q → r.q < high → low ≤ Q → Q < high → Clear (threshold_of t) t.count low high
     → ((j : ℕ) → get_or since j 0 ≤ i)
     → led_by by t b r Q i since a h xs ≡ state_after by t (standing_at by t b r Q (i + 1) since a h) (drop (i + 1) xs)
 counted_on by t few low high Q b r since a h xs i l lq qh p q c before =
@@ -80,7 +78,7 @@ counted_on by t few low high Q b r since a h xs i l lq qh p q c before =
     let H = hangovers_by (threshold_of t) t.count by.i Q i since h in
     ap (λ (n : Sums). led by t n A H (drop i xs)) (up_to b r i (length xs) l)
     ∙ count_is by t (ended b r (i + 1)) A H xs i l
-    ∙ ap₂ (λ (x y : List ℕ). state_after by t (state_of (ended b r (i + 1)) x y) (drop (i + 1) xs))
+    ∙ ap₂ (λ (x : List Samples) (y : List ℕ). state_after by t (state_of (ended b r (i + 1)) x y) (drop (i + 1) xs))
     (one_counts (threshold_of t) t.count few by.i Q r.q i since a h s before) (one_hangovers (threshold_of t) t.count few by.i Q r.q i since a h s before)
 
 pub set_out : (by : Counting) (low high : ℕ) (m : Moving) (xs : List ℤ) (at : ℕ) → Runnable by m low high xs at → Going by low high m xs at m (at + 1)
@@ -105,7 +103,7 @@ module _ (by : Counting) (low high : ℕ) (m : Moving) (xs : List ℤ) (at : ℕ
   kept : Room (length xs - (i + 1)) s
   kept = room_after by r s _ i (length xs) l (record { k_max = k; offset_fits = o }) f e g.room
 
-  stepped : (t : Thresholds) (b : Sums) (Q : ℕ) (since a h : List ℕ) → state_after by t (standing_at by t b r Q i since a h) (drop i xs) ≡ led_by by t b s Q i since a h xs
+  stepped : (t : Thresholds) (b : Sums) (Q : ℕ) (since : List ℕ) (a : List Samples) (h : List ℕ) → state_after by t (standing_at by t b r Q i since a h) (drop i xs) ≡ led_by by t b s Q i since a h xs
   stepped t b Q since a h =
       step_is by t (ended b r i) (ended b s (min (i + 1) (length xs))) (counts_by (threshold_of t) t.count by.i Q i since a h) (hangovers_by (threshold_of t) t.count by.i Q i since h) xs i l
       (ended_at by b r s _ i (length xs) l e)

@@ -9,6 +9,8 @@ use borrow.Author.Tests.{eqb-true, eqb-false, ltb-true, ltb-false, leb-true, lt-
 use lib.Dec.{T, eqb, leb, ltb}
 use lib.ListN.{length, get_or, set, length-set}
 use lib.Seq.{get_or-set_same, get_or-set_other}
+use Rattle.level.specs.declared.Samples.{Samples}
+use Rattle.level.specs.Types.{samples_of, activity}
 use Rattle.thresholds.specs.Lists.{places}
 use Rattle.sample.specs.declared.counters.Counters.{Counters}
 use Rattle.sample.specs.Inner.Counters.{Standing, SettledAt, Settled}
@@ -77,47 +79,47 @@ all_places was k j l = go (ltb j was) refl
 pub none_yet : (at from : ℕ) (on : Bool) (c : Counters) → length c.a ≡ places → length c.h ≡ places → Settled at (λ j. between from from j) (λ _. on) c c
 none_yet at from on c la lh = record { a_length = la; h_length = lh; same = refl; each_one = λ j. go j (between from from j) refl }
   where
-    go : (j : ℕ) (t : Bool) → between from from j ≡ t → SettledAt c.i at (between from from j) on (get_or c.a j 0) (get_or c.h j 0) (get_or c.since j 0) (get_or c.a j 0) (get_or c.h j 0) (get_or c.since j 0)
+    go : (j : ℕ) (t : Bool) → between from from j ≡ t → SettledAt c.i at (between from from j) on (activity c.a j) (get_or c.h j 0) (get_or c.since j 0) (activity c.a j) (get_or c.h j 0) (get_or c.since j 0)
     go j true e = let p = in_between from from j e in absurd (omega (arith, p.0, p.1))
     go j false e =
-        subst (λ (b : Bool). SettledAt c.i at b on (get_or c.a j 0) (get_or c.h j 0) (get_or c.since j 0) (get_or c.a j 0) (get_or c.h j 0) (get_or c.since j 0)) (sym e)
+        subst (λ (b : Bool). SettledAt c.i at b on (activity c.a j) (get_or c.h j 0) (get_or c.since j 0) (activity c.a j) (get_or c.h j 0) (get_or c.since j 0)) (sym e)
         (record { count = refl; hangover = refl; index = refl })
 
 module _ (at from : ℕ) (on : Bool) (c d : Counters) (j : ℕ) (l : from ≤ j) (b : j < places) (so_far : Settled at (λ i. between from j i) (λ _. on) c d) where
   -- the place is as it was
-  pub untouched : SettledAt c.i at false on (get_or c.a j 0) (get_or c.h j 0) (get_or c.since j 0) (get_or d.a j 0) (get_or d.h j 0) (get_or d.since j 0)
+  pub untouched : SettledAt c.i at false on (activity c.a j) (get_or c.h j 0) (get_or c.since j 0) (activity d.a j) (get_or d.h j 0) (get_or d.since j 0)
   untouched =
-      subst (λ (t : Bool). SettledAt c.i at t on (get_or c.a j 0) (get_or c.h j 0) (get_or c.since j 0) (get_or d.a j 0) (get_or d.h j 0) (get_or d.since j 0)) (between_past from j j (omega arith)) (so_far.each_one j)
+      subst (λ (t : Bool). SettledAt c.i at t on (activity c.a j) (get_or c.h j 0) (get_or c.since j 0) (activity d.a j) (get_or d.h j 0) (get_or d.since j 0)) (between_past from j j (omega arith)) (so_far.each_one j)
 
-  module _ (ls : length d.since ≡ places) (v w : ℕ)
-      (ev : v ≡ count_over d.i on (at - get_or d.since j 0) (get_or d.a j 0) (get_or d.h j 0)) (ew : w ≡ hangover_over d.i on (at - get_or d.since j 0) (get_or d.h j 0)) where
-    here : SettledAt c.i at true on (get_or c.a j 0) (get_or c.h j 0) (get_or c.since j 0) (get_or (set d.a j v) j 0) (get_or (set d.h j w) j 0) (get_or (set d.since j at) j 0)
+  module _ (ls : length d.since ≡ places) (v : Samples) (w : ℕ)
+      (ev : v.0 ≡ count_over d.i on (at - get_or d.since j 0) (activity d.a j) (get_or d.h j 0)) (ew : w ≡ hangover_over d.i on (at - get_or d.since j 0) (get_or d.h j 0)) where
+    here : SettledAt c.i at true on (activity c.a j) (get_or c.h j 0) (get_or c.since j 0) (activity (set d.a j v) j) (get_or (set d.h j w) j 0) (get_or (set d.since j at) j 0)
     here =
         let u = untouched in
         record {
-          count = get_or-set_same d.a j v 0 (omega (arith, so_far.a_length)) ∙ ev ∙ cc (u.count, u.hangover, u.index, so_far.same);
+          count = ap (λ (n : Samples). n.0) (get_or-set_same d.a j v (samples_of 0) (omega (arith, so_far.a_length))) ∙ ev ∙ cc (u.count, u.hangover, u.index, so_far.same);
           hangover = get_or-set_same d.h j w 0 (omega (arith, so_far.h_length)) ∙ ew ∙ cc (u.hangover, u.index, so_far.same);
           index = get_or-set_same d.since j at 0 (omega arith);
         }
 
     pub one_more : (i : ℕ)
-        → SettledAt c.i at (between from (j + 1) i) on (get_or c.a i 0) (get_or c.h i 0) (get_or c.since i 0) (get_or (set d.a j v) i 0) (get_or (set d.h j w) i 0) (get_or (set d.since j at) i 0)
+        → SettledAt c.i at (between from (j + 1) i) on (activity c.a i) (get_or c.h i 0) (get_or c.since i 0) (activity (set d.a j v) i) (get_or (set d.h j w) i 0) (get_or (set d.since j at) i 0)
     one_more i = go (eqb i j) refl
       where
         go : (t : Bool) → eqb i j ≡ t
-            → SettledAt c.i at (between from (j + 1) i) on (get_or c.a i 0) (get_or c.h i 0) (get_or c.since i 0) (get_or (set d.a j v) i 0) (get_or (set d.h j w) i 0) (get_or (set d.since j at) i 0)
+            → SettledAt c.i at (between from (j + 1) i) on (activity c.a i) (get_or c.h i 0) (get_or c.since i 0) (activity (set d.a j v) i) (get_or (set d.h j w) i 0) (get_or (set d.since j at) i 0)
         go true e =
-            subst (λ (x : ℕ). SettledAt c.i at (between from (j + 1) x) on (get_or c.a x 0) (get_or c.h x 0) (get_or c.since x 0) (get_or (set d.a j v) x 0) (get_or (set d.h j w) x 0) (get_or (set d.since j at) x 0))
+            subst (λ (x : ℕ). SettledAt c.i at (between from (j + 1) x) on (activity c.a x) (get_or c.h x 0) (get_or c.since x 0) (activity (set d.a j v) x) (get_or (set d.h j w) x 0) (get_or (set d.since j at) x 0))
             (sym (eqb-true i j e))
-            (subst (λ (t : Bool). SettledAt c.i at t on (get_or c.a j 0) (get_or c.h j 0) (get_or c.since j 0) (get_or (set d.a j v) j 0) (get_or (set d.h j w) j 0) (get_or (set d.since j at) j 0))
+            (subst (λ (t : Bool). SettledAt c.i at t on (activity c.a j) (get_or c.h j 0) (get_or c.since j 0) (activity (set d.a j v) j) (get_or (set d.h j w) j 0) (get_or (set d.since j at) j 0))
             (sym (between_in from (j + 1) j l (omega arith))) here)
         go false e =
             let f = eqb-false i j e in
             let p = so_far.each_one i in
-            subst (λ (t : Bool). SettledAt c.i at t on (get_or c.a i 0) (get_or c.h i 0) (get_or c.since i 0) (get_or (set d.a j v) i 0) (get_or (set d.h j w) i 0) (get_or (set d.since j at) i 0))
+            subst (λ (t : Bool). SettledAt c.i at t on (activity c.a i) (get_or c.h i 0) (get_or c.since i 0) (activity (set d.a j v) i) (get_or (set d.h j w) i 0) (get_or (set d.since j at) i 0))
             (sym (between_other from j i f))
             (record {
-              count = get_or-set_other d.a j i v 0 f ∙ p.count;
+              count = ap (λ (n : Samples). n.0) (get_or-set_other d.a j i v (samples_of 0) f) ∙ p.count;
               hangover = get_or-set_other d.h j i w 0 f ∙ p.hangover;
               index = get_or-set_other d.since j i at 0 f ∙ p.index;
             })
@@ -177,7 +179,7 @@ twice at one two on₁ on₂ on c d e f g o p q =
       same = q.same ∙ p.same;
       each_one = λ j.
           twice_at c.i at (one j) (two j) (on₁ j) (on₂ j) (on j) _ _ _ _ _ _ _ _ _ (f j) (g j) (o j) (p.each_one j)
-          (subst (λ (i : ℕ). SettledAt i at (two j) (on₂ j) (get_or d.a j 0) (get_or d.h j 0) (get_or d.since j 0) (get_or e.a j 0) (get_or e.h j 0) (get_or e.since j 0)) p.same (q.each_one j));
+          (subst (λ (i : ℕ). SettledAt i at (two j) (on₂ j) (activity d.a j) (get_or d.h j 0) (get_or d.since j 0) (activity e.a j) (get_or e.h j 0) (get_or e.since j 0)) p.same (q.each_one j));
     }
 
 -- ---- what a settled counter stands for, whatever side of its threshold the envelope is on from there on

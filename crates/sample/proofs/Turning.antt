@@ -1,6 +1,6 @@
 -- The loop over runs: how it stands, a turn of it, and its end.
 use mathlib.Core.Bool.{Bool, false, cond, ◌||◌}
-use mathlib.Core.List.{List, map}
+use mathlib.Core.List.{List}
 use mathlib.Core.Path.{◌≡◌, ap, ap₂, ◌∙◌, subst, sym}
 use Prim.Native.Nat.{ℕ, ◌+◌, ◌-◌, ◌^◌, ◌≤◌, ◌<◌, min}
 use native.Mathlib.Decide.{dec_le}
@@ -14,7 +14,7 @@ use mir.Syntax.{w16}
 use mir.Val.{SFits}
 use Rattle.std.proofs.Common.{to_z, of_z}
 use Rattle.level.specs.declared.Samples.{Samples}
-use Rattle.level.specs.Types.{samples_of, activity, most_samples}
+use Rattle.level.specs.Types.{activity, most_samples}
 use Rattle.thresholds.specs.declared.Thresholds.{Thresholds}
 use Rattle.thresholds.specs.Lists.{places, threshold_of}
 use Rattle.thresholds.specs.Rising.{Rising}
@@ -27,14 +27,14 @@ use Rattle.sample.specs.declared.step.Moving.{Moving}
 use Rattle.sample.specs.Sample.{each, summed, state_after}
 use Rattle.sample.specs.Inner.Counters.{Standing, SettledAt, Settled}
 use Rattle.sample.specs.Inner.Over.{count_over, hangover_over, between}
-use Rattle.sample.specs.Inner.Runs.{counts_by, hangovers_by, numbers_of, state_of, led, led_by, Ran}
+use Rattle.sample.specs.Inner.Runs.{counts_by, hangovers_by, state_of, led, led_by, Ran}
 use Rattle.sample.specs.Inner.Steps.{begun, moved, ended, Room}
 use Rattle.sample.proofs.Bands.{clear, sides, placed}
 use Rattle.thresholds.proofs.Places.{list_length, each_at, filled_same, is_filled_lem, at_or_past}
+use Rattle.sample.proofs.Counts.{are_counts, counts_same}
 use Rattle.sample.proofs.Over.{no_count_lem, no_hangover}
 use Rattle.sample.specs.StateAfter.{Within}
 use Rattle.sample.proofs.Moved.{ended_none, ended_at, up_to_end, room_first, room_less, room_after}
-use Rattle.sample.proofs.Numbers.{typed_again, number_at}
 use Rattle.sample.proofs.Ran.{none_left, step_is}
 use Rattle.sample.proofs.Settling.{apart, uncrossed, all_places, stands_count, stands_hangover, index_le, count_le}
 
@@ -66,8 +66,8 @@ pub record Turning (by : Counting) (T : Thresholds) (s : State) (xs : List ℤ) 
   pub to : m.q < band.high
   pub limit : c.i ≡ by.i
   pub index : (j : ℕ) → get_or c.since j 0 ≤ at
-  pub a_max : (j : ℕ) → get_or c.a j 0 ≤ s.sums.n.0 + get_or c.since j 0
-  pub a_past : (j : ℕ) → T.count ≤ j → get_or c.a j 0 ≡ 0
+  pub a_max : (j : ℕ) → activity c.a j ≤ s.sums.n.0 + get_or c.since j 0
+  pub a_past : (j : ℕ) → T.count ≤ j → activity c.a j ≡ 0
   pub h_past : (j : ℕ) → T.count ≤ j → get_or c.h j 0 ≡ 0
   pub rest : led_by by T s.sums m band.low at c.since c.a c.h xs ≡ state_after by T s xs
 
@@ -81,29 +81,29 @@ zeros_at : (j : ℕ) → get_or zeros j 0 ≡ 0
 unfolding zeros
 zeros_at j = omega (arith, at_or_past (each places (λ _. 0)) places 0 (list_length _ 0 places) (λ i l. omega (arith, each_at {A = ℕ} 0 places (λ _. 0) i l)) j)
 
-module _ (T : Thresholds) (I Q : ℕ) (a h : List ℕ) (la : places ≡ length a) (lh : places ≡ length h) (pa : (j : ℕ) → T.count ≤ j → get_or a j 0 ≡ 0) (ph : (j : ℕ) → T.count ≤ j → get_or h j 0 ≡ 0) where
+module _ (T : Thresholds) (I Q : ℕ) (a : List Samples) (h : List ℕ) (la : places ≡ length a) (lh : places ≡ length h) (pa : (j : ℕ) → T.count ≤ j → activity a j ≡ 0) (ph : (j : ℕ) → T.count ≤ j → get_or h j 0 ≡ 0) where
   none_since : (j : ℕ) → 0 - get_or zeros j 0 ≡ 0
   none_since j = omega (arith, zeros_at j)
 
   at_first_counts : a ≡ counts_by (threshold_of T) T.count I Q 0 zeros a h
   unfolding counts_by
-  at_first_counts = is_filled_lem places T.count a _ la (λ j l. sym (no_count_lem I (leb (threshold_of T j) Q) _ (get_or a j 0) (get_or h j 0) (none_since j))) pa
+  at_first_counts = are_counts T.count a _ la (λ j l. sym (no_count_lem I (leb (threshold_of T j) Q) _ (activity a j) (get_or h j 0) (none_since j))) pa
 
   at_first_hangovers : h ≡ hangovers_by (threshold_of T) T.count I Q 0 zeros h
   unfolding hangovers_by
   at_first_hangovers = is_filled_lem places T.count h _ lh (λ j l. sym (no_hangover I (leb (threshold_of T j) Q) _ (get_or h j 0) (none_since j))) ph
 
 -- bounded in the list, and zero past it
-within_bound : (l : List ℕ) (k b : ℕ) → ((j : ℕ) → j < k → get_or l j 0 ≤ b) → ((j : ℕ) → k ≤ j → get_or l j 0 ≡ 0) → (j : ℕ) → get_or l j 0 ≤ b
-within_bound l k b f z j = go (dec_le k j)
+within_bound : (f : ℕ → ℕ) (k b : ℕ) → ((j : ℕ) → j < k → f j ≤ b) → ((j : ℕ) → k ≤ j → f j ≡ 0) → (j : ℕ) → f j ≤ b
+within_bound f k b l z j = go (dec_le k j)
   where
-    go : Dec (k ≤ j) → get_or l j 0 ≤ b
+    go : Dec (k ≤ j) → f j ≤ b
     go (yes g) = omega (arith, z j g)
-    go (no g) = f j (lt_of_not-le g)
+    go (no g) = l j (lt_of_not-le g)
 
 -- the hangovers of a state are within I
 pub h_within : {by : Counting} {T : Thresholds} {new : ℕ} {s : State} → Within by T new s → (j : ℕ) → get_or s.h j 0 ≤ by.i
-h_within {by} {T} {new} {s} w = within_bound s.h T.count by.i w.h_max w.h_past
+h_within {by} {T} {new} {s} w = within_bound (λ j. get_or s.h j 0) T.count by.i w.h_max w.h_past
 
 -- the first sample, and room for it and the others
 module _ (by : Counting) (T : Thresholds) (s : State) (xs : List ℤ) (m : Moving) (w : Within by T (length xs) s) (some : length xs ≡ 0 → ⊥)
@@ -118,7 +118,7 @@ module _ (by : Counting) (T : Thresholds) (s : State) (xs : List ℤ) (m : Movin
       (room_less _ _ (begun s.sums) (omega arith) (room_first s.sums _ w.sums w.room w.few))
 
   pub started : (c : Counters) (band : Band) → band.list.now ≡ T → band.low ≤ m.q → m.q < band.high → s.sums.sq.low < 2 ^ 64
-      → places ≡ length c.a → places ≡ length c.h → c.a ≡ numbers_of s.a → c.h ≡ s.h → c.since ≡ each places (λ _. 0) → c.i ≡ by.i
+      → places ≡ length c.a → places ≡ length c.h → c.a ≡ s.a → c.h ≡ s.h → c.since ≡ each places (λ _. 0) → c.i ≡ by.i
       → Turning by T s xs c m band 0
   unfolding zeros
   started c band of_list from to fits la lh same_a same_h none limit =
@@ -131,28 +131,28 @@ module _ (by : Counting) (T : Thresholds) (s : State) (xs : List ℤ) (m : Movin
         to = to;
         limit = limit;
         index = λ j. omega (arith, ap (λ (l : List ℕ). get_or l j 0) none, zeros_at j);
-        a_max = λ j. omega (arith, within_bound c.a T.count s.sums.n.0 (λ i l. omega (arith, count i, w.a_max i l)) past j);
+        a_max = λ j. omega (arith, within_bound (activity c.a) T.count s.sums.n.0 (λ i l. omega (arith, count i, w.a_max i l)) past j);
         a_past = past;
         h_past = past_h;
         rest =
             ap (λ (z : List ℕ). led_by by T s.sums m band.low 0 z c.a c.h xs) none
-            ∙ ap₂ (λ (x y : List ℕ). led by T (ended s.sums m (min (0 + 1) (length xs))) x y xs) (sym (at_first_counts T by.i band.low c.a c.h la lh past past_h)) (sym (at_first_hangovers T by.i band.low c.a c.h la lh past past_h))
+            ∙ ap₂ (λ (x : List Samples) (y : List ℕ). led by T (ended s.sums m (min (0 + 1) (length xs))) x y xs) (sym (at_first_counts T by.i band.low c.a c.h la lh past past_h)) (sym (at_first_hangovers T by.i band.low c.a c.h la lh past past_h))
             ∙ sym (step_is by T s.sums (ended s.sums m (min (0 + 1) (length xs))) c.a c.h xs 0 (pos_of_ne-zero some)
             (ended_at by s.sums (begun s.sums) m _ 0 (length xs) (pos_of_ne-zero some) first ∙ ap (λ (t : Sums). summed by t (get_or xs 0 (pos 0))) (ended_none s.sums fits)))
             ∙ ap (λ (x : State). state_after by T x xs) same;
       }
     where
-      count : (j : ℕ) → get_or c.a j 0 ≡ activity s.a j
-      count j = ap (λ (l : List ℕ). get_or l j 0) same_a ∙ number_at s.a j
+      count : (j : ℕ) → activity c.a j ≡ activity s.a j
+      count j = ap (λ (l : List Samples). activity l j) same_a
 
-      past : (j : ℕ) → T.count ≤ j → get_or c.a j 0 ≡ 0
+      past : (j : ℕ) → T.count ≤ j → activity c.a j ≡ 0
       past j l = count j ∙ w.a_past j l
 
       past_h : (j : ℕ) → T.count ≤ j → get_or c.h j 0 ≡ 0
       past_h j l = ap (λ (x : List ℕ). get_or x j 0) same_h ∙ w.h_past j l
 
       same : state_of s.sums c.a c.h ≡ s
-      same = ap₂ (λ (x : List Samples) (y : List ℕ). record { sums = s.sums; a = x; h = y }) (ap (map samples_of) same_a ∙ typed_again s.a) same_h
+      same = ap₂ (λ (x : List Samples) (y : List ℕ). record { sums = s.sums; a = x; h = y }) same_a same_h
 
 module _ (by : Counting) (T : Thresholds) (s : State) (xs : List ℤ) (c : Counters) (m : Moving) (band : Band) (at : ℕ) (t : Turning by T s xs c m band at)
     (all : s.sums.n.0 + length xs ≤ most_samples) where
@@ -161,7 +161,7 @@ module _ (by : Counting) (T : Thresholds) (s : State) (xs : List ℤ) (c : Count
   standing end l e =
       record {
         index = λ j. omega (arith, t.index j);
-        room = λ j. fits (get_or c.a j 0) (get_or c.since j 0) s.sums.n.0 end (length xs) (t.a_max j) (omega (arith, t.index j)) e all;
+        room = λ j. fits (activity c.a j) (get_or c.since j 0) s.sums.n.0 end (length xs) (t.a_max j) (omega (arith, t.index j)) e all;
       }
     where
       fits : (v s n e l : ℕ) → v ≤ n + s → s ≤ e → e ≤ l → n + l ≤ most_samples → v + (e - s) < 2 ^ 63
@@ -173,31 +173,31 @@ module _ (by : Counting) (T : Thresholds) (s : State) (xs : List ℤ) (c : Count
 
   -- a settled counter, by the same limit
   module _ (end : ℕ) (one on : ℕ → Bool) (d : Counters) (S : Settled end one on c d) where
-    settled_at : (j : ℕ) → SettledAt by.i end (one j) (on j) (get_or c.a j 0) (get_or c.h j 0) (get_or c.since j 0) (get_or d.a j 0) (get_or d.h j 0) (get_or d.since j 0)
-    settled_at j = subst (λ (i : ℕ). SettledAt i end (one j) (on j) (get_or c.a j 0) (get_or c.h j 0) (get_or c.since j 0) (get_or d.a j 0) (get_or d.h j 0) (get_or d.since j 0)) t.limit (S.each_one j)
+    settled_at : (j : ℕ) → SettledAt by.i end (one j) (on j) (activity c.a j) (get_or c.h j 0) (get_or c.since j 0) (activity d.a j) (get_or d.h j 0) (get_or d.since j 0)
+    settled_at j = subst (λ (i : ℕ). SettledAt i end (one j) (on j) (activity c.a j) (get_or c.h j 0) (get_or c.since j 0) (activity d.a j) (get_or d.h j 0) (get_or d.since j 0)) t.limit (S.each_one j)
 
   -- ---- a turn
 
   module _ (r : Moving) (end : ℕ) (next : Band) (R : Ran by band.low band.high m xs at r end) (of_list : next.list.now ≡ T) (from : next.low ≤ r.q) (to : r.q < next.high)
       (d : Counters) (S : Settled end (λ j. between band.below next.below j || between next.below band.below j) (λ j. ltb j band.below) c d) where
     one : (j : ℕ) → SettledAt by.i end (between band.below next.below j || between next.below band.below j) (ltb j band.below)
-        (get_or c.a j 0) (get_or c.h j 0) (get_or c.since j 0) (get_or d.a j 0) (get_or d.h j 0) (get_or d.since j 0)
+        (activity c.a j) (get_or c.h j 0) (get_or c.since j 0) (activity d.a j) (get_or d.h j 0) (get_or d.since j 0)
     one = settled_at end _ _ d S
 
     same_counts : counts_by (threshold_of T) T.count by.i next.low end d.since d.a d.h ≡ counts_by (threshold_of T) T.count by.i band.low end c.since c.a c.h
     unfolding counts_by
     same_counts =
-        filled_same places T.count _ _ (λ j l.
-        ap (λ (o : Bool). count_over by.i o (end - get_or d.since j 0) (get_or d.a j 0) (get_or d.h j 0)) (sides T next of_list t.list r.q from to j l)
-        ∙ stands_count by.i end _ _ _ (get_or c.a j 0) (get_or c.h j 0) (get_or c.since j 0) (get_or d.a j 0) (get_or d.h j 0) (get_or d.since j 0) (one j) (uncrossed band.below next.below j)
-        ∙ ap (λ (o : Bool). count_over by.i o (end - get_or c.since j 0) (get_or c.a j 0) (get_or c.h j 0)) (sym (reached j l)))
+        counts_same T.count _ _ (λ j l.
+        ap (λ (o : Bool). count_over by.i o (end - get_or d.since j 0) (activity d.a j) (get_or d.h j 0)) (sides T next of_list t.list r.q from to j l)
+        ∙ stands_count by.i end _ _ _ (activity c.a j) (get_or c.h j 0) (get_or c.since j 0) (activity d.a j) (get_or d.h j 0) (get_or d.since j 0) (one j) (uncrossed band.below next.below j)
+        ∙ ap (λ (o : Bool). count_over by.i o (end - get_or c.since j 0) (activity c.a j) (get_or c.h j 0)) (sym (reached j l)))
 
     same_hangovers : hangovers_by (threshold_of T) T.count by.i next.low end d.since d.h ≡ hangovers_by (threshold_of T) T.count by.i band.low end c.since c.h
     unfolding hangovers_by
     same_hangovers =
         filled_same places T.count _ _ (λ j l.
         ap (λ (o : Bool). hangover_over by.i o (end - get_or d.since j 0) (get_or d.h j 0)) (sides T next of_list t.list r.q from to j l)
-        ∙ stands_hangover by.i end _ _ _ (get_or c.a j 0) (get_or c.h j 0) (get_or c.since j 0) (get_or d.a j 0) (get_or d.h j 0) (get_or d.since j 0) (one j) (uncrossed band.below next.below j)
+        ∙ stands_hangover by.i end _ _ _ (activity c.a j) (get_or c.h j 0) (get_or c.since j 0) (activity d.a j) (get_or d.h j 0) (get_or d.since j 0) (one j) (uncrossed band.below next.below j)
         ∙ ap (λ (o : Bool). hangover_over by.i o (end - get_or c.since j 0) (get_or c.h j 0)) (sym (reached j l)))
 
     unmoved : (j : ℕ) → T.count ≤ j → (between band.below next.below j || between next.below band.below j) ≡ false
@@ -218,7 +218,7 @@ module _ (by : Counting) (T : Thresholds) (s : State) (xs : List ℤ) (c : Count
           a_past = λ j l. alone_count by.i end _ _ _ _ _ _ _ _ (one j) (unmoved j l) ∙ t.a_past j l;
           h_past = λ j l. alone_hangover by.i end _ _ _ _ _ _ _ _ (one j) (unmoved j l) ∙ t.h_past j l;
           rest =
-              ap₂ (λ (x y : List ℕ). led by T (ended s.sums r (min (end + 1) (length xs))) x y (drop end xs)) same_counts same_hangovers
+              ap₂ (λ (x : List Samples) (y : List ℕ). led by T (ended s.sums r (min (end + 1) (length xs))) x y (drop end xs)) same_counts same_hangovers
               ∙ sym (R.same T t.list.few s.sums band.low c.since c.a c.h (le_refl band.low) (lt_of_le_of_lt t.from t.to) (clear T band t.of_list t.list) t.index)
               ∙ t.rest;
         }
@@ -233,7 +233,7 @@ module _ (by : Counting) (T : Thresholds) (s : State) (xs : List ℤ) (c : Count
     S = subst (λ (x : Thresholds). Settled at (λ j. between 0 band.below j || between band.below x.count j) (λ j. ltb j band.below) c d) t.of_list settled
 
     last : (j : ℕ) → SettledAt by.i at (between 0 band.below j || between band.below T.count j) (ltb j band.below)
-        (get_or c.a j 0) (get_or c.h j 0) (get_or c.since j 0) (get_or d.a j 0) (get_or d.h j 0) (get_or d.since j 0)
+        (activity c.a j) (get_or c.h j 0) (get_or c.since j 0) (activity d.a j) (get_or d.h j 0) (get_or d.since j 0)
     last = settled_at at _ _ d S
 
     unsettled : (j : ℕ) → T.count ≤ j → (between 0 band.below j || between band.below T.count j) ≡ false
@@ -242,10 +242,10 @@ module _ (by : Counting) (T : Thresholds) (s : State) (xs : List ℤ) (c : Count
     last_counts : d.a ≡ counts_by (threshold_of T) T.count by.i band.low at c.since c.a c.h
     unfolding counts_by
     last_counts =
-        is_filled_lem places T.count d.a _ (sym S.a_length) (λ j l.
+        are_counts T.count d.a _ (sym S.a_length) (λ j l.
         (last j).count
-        ∙ ap (λ (b : Bool). cond b (count_over by.i (ltb j band.below) (at - get_or c.since j 0) (get_or c.a j 0) (get_or c.h j 0)) (get_or c.a j 0)) (all_places band.below T.count j l)
-        ∙ ap (λ (o : Bool). count_over by.i o (at - get_or c.since j 0) (get_or c.a j 0) (get_or c.h j 0)) (sym (reached j l)))
+        ∙ ap (λ (b : Bool). cond b (count_over by.i (ltb j band.below) (at - get_or c.since j 0) (activity c.a j) (get_or c.h j 0)) (activity c.a j)) (all_places band.below T.count j l)
+        ∙ ap (λ (o : Bool). count_over by.i o (at - get_or c.since j 0) (activity c.a j) (get_or c.h j 0)) (sym (reached j l)))
         (λ j l. alone_count by.i at _ _ _ _ _ _ _ _ (last j) (unsettled j l) ∙ t.a_past j l)
 
     last_hangovers : d.h ≡ hangovers_by (threshold_of T) T.count by.i band.low at c.since c.h
@@ -257,10 +257,10 @@ module _ (by : Counting) (T : Thresholds) (s : State) (xs : List ℤ) (c : Count
         ∙ ap (λ (o : Bool). hangover_over by.i o (at - get_or c.since j 0) (get_or c.h j 0)) (sym (reached j l)))
         (λ j l. alone_hangover by.i at _ _ _ _ _ _ _ _ (last j) (unsettled j l) ∙ t.h_past j l)
 
-    pub finished : length xs ≤ at → (sums : Sums) (a : List Samples) → sums ≡ ended s.sums m (length xs) → a ≡ map samples_of d.a → record { sums = sums; a = a; h = d.h } ≡ state_after by T s xs
-    finished l sums a e f =
-        ap₂ (λ (x : Sums) (y : List Samples). record { sums = x; a = y; h = d.h }) e f
-        ∙ ap₂ (λ (x y : List ℕ). state_of (ended s.sums m (length xs)) x y) last_counts last_hangovers
+    pub finished : length xs ≤ at → (sums : Sums) → sums ≡ ended s.sums m (length xs) → record { sums = sums; a = d.a; h = d.h } ≡ state_after by T s xs
+    finished l sums e =
+        ap (λ (x : Sums). state_of x d.a d.h) e
+        ∙ ap₂ (λ (x : List Samples) (y : List ℕ). state_of (ended s.sums m (length xs)) x y) last_counts last_hangovers
         ∙ ap (λ (x : Sums). state_of x (counts_by (threshold_of T) T.count by.i band.low at c.since c.a c.h) (hangovers_by (threshold_of T) T.count by.i band.low at c.since c.h)) (sym (up_to_end s.sums m at (length xs) l))
         ∙ sym (none_left by T (ended s.sums m (min (at + 1) (length xs))) _ _ xs at l)
         ∙ t.rest

@@ -5,12 +5,13 @@ ghost use Rattle.thresholds.specs.Lists.{places};
 ghost use Rattle.sample.specs.Inner.Over.{count_over, hangover_over, between};
 
 use crate::band::Band;
+use level::Samples;
 use thresholds::PLACES;
 
 // The counts, the hangovers, which are at most I, and the indices.
 #[derive(Drop)]
 pub struct Counters {
-    pub a: [u64; PLACES],
+    pub a: [Samples; PLACES],
     pub h: [u64; PLACES],
     pub since: [u64; PLACES],
     pub i: u64,
@@ -51,34 +52,28 @@ impl Counters {
     {
         for j in from..to {
             let run = at - self.since[j];
-            self.a[j] = counted(self.i, on, run, self.a[j], self.h[j]);
-            self.h[j] = hung(self.i, on, run, self.h[j]);
+            let (count, hangover) = after_run(self.a[j].count(), self.h[j], on, run, self.i);
+            self.a[j] = Samples::of(count);
+            self.h[j] = hangover;
             self.since[j] = at;
         }
     }
 }
 
-#[tactic(auto, using(crate::proofs::Over::on_count, crate::proofs::Over::off_count))]
-// A count after a run: every sample of it counts while the envelope is on, else those that the
-// hangover has left.
-fn counted(i: u64, on: bool, run: u64, a: u64, h: u64) -> u64
+// A count and its hangover after a run, which may be empty: every sample of it counts while the envelope
+// is on, else those that the hangover has left.
+#[tactic(auto, using(crate::proofs::Over::on_count, crate::proofs::Over::off_count, crate::proofs::Over::on_hangover, crate::proofs::Over::off_hangover, crate::proofs::Over::no_hangover))]
+fn after_run(a: u64, h: u64, on: bool, run: u64, i: u64) -> (u64, u64)
     requires { (a + run < 2 ^ 63) × (h ≤ i) }
-    ensures { result ≡ count_over i on run a h }
-{
-    if on { a + run } else { a + run.min(i - h) }
-}
-
-#[tactic(auto, using(crate::proofs::Over::on_hangover, crate::proofs::Over::off_hangover, crate::proofs::Over::no_hangover))]
-// A hangover after a run. A run may be empty.
-fn hung(i: u64, on: bool, run: u64, h: u64) -> u64
-    requires { h ≤ i }
-    ensures { result ≡ hangover_over i on run h }
+    ensures count { result.0 ≡ count_over i on run a h }
+    ensures hangover { result.1 ≡ hangover_over i on run h }
 {
     if !on {
-        h + run.min(i - h)
+        let left = run.min(i - h);
+        (a + left, h + left)
     } else if run == 0 {
-        h
+        (a, h)
     } else {
-        0
+        (a + run, 0)
     }
 }

@@ -60,7 +60,6 @@ impl State {
         let State { sums, a, h } = self;
         let mut moving = sums.begin().step(by, xs[0]);
         let mut band = Band::lowest(&list).around(moving.q);
-        let a = a.map(Samples::count);
         let since = [0; PLACES];
         let mut counters = Counters { a, h, since, i: by.i };
         let mut at = 0;
@@ -74,7 +73,6 @@ impl State {
         }
         counters.finish(band, at as u64);
         let Counters { a, h, .. } = counters;
-        let a = a.map(Samples::of);
         State {
             sums: sums.end(moving, xs.len()),
             a,

@@ -1,49 +1,39 @@
--- What the functions inside this crate promise one another about runs of samples. Counts are plain numbers here. c are the thresholds and k is how
--- many there are.
-use Rattle.std.specs.Prelude.{List, [], ◌∷◌, map, ◌≡◌, ℕ, ◌+◌, ◌-◌, ◌≤◌, ◌<◌, min, leb, ℤ, length, get_or, drop}
+-- What the functions inside this crate promise one another about runs of samples. c are the thresholds and k is how many there are.
+use Rattle.std.specs.Prelude.{List, [], ◌∷◌, ◌≡◌, ℕ, ◌+◌, ◌-◌, ◌≤◌, ◌<◌, min, leb, ℤ, length, get_or, drop}
 use Rattle.level.specs.declared.Samples.{Samples}
-use Rattle.level.specs.Types.{samples_of}
+use Rattle.level.specs.Types.{samples_of, activity}
 use Rattle.thresholds.specs.declared.Thresholds.{Thresholds}
 use Rattle.thresholds.specs.Lists.{places, threshold_of}
 use Rattle.sample.specs.declared.Counting.{Counting}
 use Rattle.sample.specs.declared.Sums.{Sums}
 use Rattle.sample.specs.declared.State.{State}
 use Rattle.sample.specs.declared.step.Moving.{Moving}
-use Rattle.sample.specs.Activity.{counted}
 use Rattle.sample.specs.Envelope.{smoothing}
-use Rattle.sample.specs.Sample.{each, up_to, hangovers, state_after}
+use Rattle.sample.specs.Sample.{each, up_to, counts, hangovers, state_after}
 use Rattle.sample.specs.Inner.Bands.{Clear}
 use Rattle.sample.specs.Inner.Over.{count_over, hangover_over}
 use Rattle.sample.specs.Inner.Steps.{ended, Room}
 
--- the counts after a sample that left the envelope at Q
-unfoldable pub plain_counts : (c : ℕ → ℕ) (k I Q : ℕ) (a h : List ℕ) → List ℕ
-plain_counts c k I Q a h = each places (up_to k (λ j. counted I (leb (c j) Q) (get_or a j 0) (get_or h j 0)))
-
 -- the counters at index i, where counter j stands as it was at index since_j and the envelope has been on Q's side of its threshold from there on
-unfoldable pub counts_by : (c : ℕ → ℕ) (k I Q i : ℕ) (since a h : List ℕ) → List ℕ
-counts_by c k I Q i since a h = each places (up_to k (λ j. count_over I (leb (c j) Q) (i - get_or since j 0) (get_or a j 0) (get_or h j 0)))
+unfoldable pub counts_by : (c : ℕ → ℕ) (k I Q i : ℕ) (since : List ℕ) (a : List Samples) (h : List ℕ) → List Samples
+counts_by c k I Q i since a h = each places (λ j. samples_of (up_to k (λ p. count_over I (leb (c p) Q) (i - get_or since p 0) (activity a p) (get_or h p 0)) j))
 
 unfoldable pub hangovers_by : (c : ℕ → ℕ) (k I Q i : ℕ) (since h : List ℕ) → List ℕ
 hangovers_by c k I Q i since h = each places (up_to k (λ j. hangover_over I (leb (c j) Q) (i - get_or since j 0) (get_or h j 0)))
 
--- plain numbers from counts of samples
-abbrev pub numbers_of : List Samples → List ℕ
-numbers_of a = map (λ (n : Samples). n.0) a
-
--- a state, from plain counts
-abbrev pub state_of : Sums → List ℕ → List ℕ → State
-state_of m a h = record { sums = m; a = map samples_of a; h = h }
+-- a state, from its parts
+abbrev pub state_of : Sums → List Samples → List ℕ → State
+state_of m a h = record { sums = m; a = a; h = h }
 
 -- the state that samples lead to, where the sums already hold the first of them and the counters do not
-unfoldable pub led : Counting → Thresholds → Sums → (a h : List ℕ) → List ℤ → State
+unfoldable pub led : Counting → Thresholds → Sums → List Samples → List ℕ → List ℤ → State
 led by t m a h [] = state_of m a h
 led by t m a h (x ∷ xs) =
-    state_after by t (state_of m (plain_counts (threshold_of t) t.count by.i m.q a h) (hangovers (threshold_of t) t.count by.i m.q h)) xs
+    state_after by t (state_of m (counts (threshold_of t) t.count by.i m.q a h) (hangovers (threshold_of t) t.count by.i m.q h)) xs
 
 -- the same of all samples xs: the sums were b before them, those up to index i, the one there among them, left m, and the counters stand for an
 -- envelope Q at that index
-abbrev pub led_by : Counting → Thresholds → (b : Sums) → Moving → (Q i : ℕ) (since a h : List ℕ) → List ℤ → State
+abbrev pub led_by : Counting → Thresholds → (b : Sums) → Moving → (Q i : ℕ) (since : List ℕ) (a : List Samples) (h : List ℕ) → List ℤ → State
 led_by by t b m Q i since a h xs =
     led by t (ended b m (min (i + 1) (length xs))) (counts_by (threshold_of t) t.count by.i Q i since a h) (hangovers_by (threshold_of t) t.count by.i Q i since h) (drop i xs)
 
@@ -61,5 +51,5 @@ pub record Ran (by : Counting) (low high : ℕ) (m : Moving) (xs : List ℤ) (at
   pub on : at < end
   pub within : end ≤ length xs
   pub room : Room (length xs - (end + 1)) r
-  pub same : (t : Thresholds) → t.count ≤ places → (b : Sums) (Q : ℕ) (since a h : List ℕ) → low ≤ Q → Q < high → Clear (threshold_of t) t.count low high → ((j : ℕ) → get_or since j 0 ≤ at)
+  pub same : (t : Thresholds) → t.count ≤ places → (b : Sums) (Q : ℕ) (since : List ℕ) (a : List Samples) (h : List ℕ) → low ≤ Q → Q < high → Clear (threshold_of t) t.count low high → ((j : ℕ) → get_or since j 0 ≤ at)
       → led_by by t b m Q at since a h xs ≡ led_by by t b r Q end since a h xs

@@ -7,7 +7,6 @@ use Rattle.sample.specs.declared.Counting.{Counting}
 use Rattle.sample.specs.declared.State.{State}
 use Rattle.sample.specs.Sample.{list_from, state_after}
 use Rattle.sample.specs.Inner.Steps.{moved}
-use Rattle.sample.proofs.Numbers.{mapped}
 use Rattle.sample.proofs.Turning.{first_room, h_within, started, standing, turned, finished}
 use Rattle.sample.proofs.State.after.Goals as goal
 
@@ -31,8 +30,7 @@ loop-at-init c =
     let b = c.around-band.ensures in
     started c.args.by c.args.list c.args.self c.args.xs.now _ c.requires (search rules) (record { sfits = search rules }) (record { sfits = search rules })
     _ c.begin.ensures c.step-moving.ensures
-    _ _ (b.list ∙ c.lowest.ensures) b.from b.to (search rules) (search rules) (search rules)
-    (mapped _ (λ (n : Samples). n.0) (samples_of 0) _ _ _ _ (λ p q x y k. search rules) (search rules) c.map-a.ensures.items) refl refl refl
+    _ _ (b.list ∙ c.lowest.ensures) b.from b.to (search rules) (search rules) (search rules) refl refl refl refl
 
 pub cross-requires : goal.cross-requires
 cross-requires c =
@@ -49,5 +47,4 @@ finish-requires c = standing _ _ _ _ _ _ _ _ c.loop-at.invariant c.requires.room
 
 pub returns : goal.returns
 returns c =
-    finished _ _ _ _ _ _ _ _ c.loop-at.invariant c.requires.room c.finish.new.self c.finish.ensures c.loop-at-test.false _ _ c.end.ensures
-    (mapped _ samples_of 0 _ _ _ _ (λ p q x y k. search rules) (search rules) c.map-a-2.ensures.items)
+    finished _ _ _ _ _ _ _ _ c.loop-at.invariant c.requires.room c.finish.new.self c.finish.ensures c.loop-at-test.false _ c.end.ensures
