@@ -76,7 +76,7 @@ fn rectified(offset: i16, x: i16) -> u64
     ensures size { result ≡ size offset x }
     ensures small { result < 2 ^ 16 }
 {
-    u64::from(x.abs_diff(offset))
+    i64::from(x).abs_diff(i64::from(offset))
 }
 
 // One step of smoothing, rounded down.
