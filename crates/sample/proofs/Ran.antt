@@ -10,7 +10,7 @@ use lib.Seq.{drop-cons}
 use mir.Facts.{to_z-of_z}
 use mir.Syntax.{w16}
 use mir.Val.{SFits}
-use Rattle.std.proofs.Common.{to_z, of_z, refl, subst}
+use Rattle.std.proofs.Common.{to_z, of_z, subst}
 use Rattle.thresholds.specs.declared.Thresholds.{Thresholds}
 use Rattle.thresholds.specs.Lists.{places, threshold_of}
 use Rattle.level.specs.declared.Samples.{Samples}
@@ -23,7 +23,7 @@ use Rattle.sample.specs.Sample.{summed, counts, hangovers, state_after_one, stat
 use Rattle.sample.specs.Inner.Steps.{moved, ended, Room}
 use Rattle.sample.specs.Inner.Bands.{Clear}
 use Rattle.sample.specs.Inner.Runs.{counts_by, hangovers_by, state_of, led, led_by, Runnable, Ran}
-use Rattle.sample.proofs.Moved.{Sized, up_to, ended_at, room_less, room_after}
+use Rattle.sample.proofs.Moved.{up_to, ended_at, room_less, room_after}
 use Rattle.sample.proofs.Over.{same_side, one_counts, one_hangovers}
 
 split : (xs : List ℤ) (i : ℕ) → i < length xs → drop i xs ≡ get_or xs i (pos 0) ∷ drop (i + 1) xs

@@ -4,7 +4,7 @@ use mathlib.Core.List.{List}
 use mathlib.Core.Path.{◌≡◌, ap, ap₂, ◌∙◌, subst, sym}
 use Prim.Native.Nat.{ℕ, ◌+◌, ◌-◌, ◌^◌, ◌≤◌, ◌<◌, min}
 use native.Mathlib.Decide.{dec_le}
-use native.Mathlib.Nat.{le_refl, lt_of_le_of_lt, lt_of_not-le, pos_of_ne-zero}
+use native.Mathlib.Nat.{le_refl, lt_of_le_of_lt, lt_of_not-le}
 use native.Mathlib.Omega.{arith}
 use lib.Dec.{leb, ltb}
 use lib.IntN.{ℤ, pos}
@@ -106,15 +106,14 @@ pub h_within : {by : Counting} {T : Thresholds} {new : ℕ} {s : State} → With
 h_within {by} {T} {new} {s} w = within_bound (λ j. get_or s.h j 0) T.count by.i w.h_max w.h_past
 
 -- the first sample, and room for it and the others
-module _ (by : Counting) (T : Thresholds) (s : State) (xs : List ℤ) (m : Moving) (w : Within by T (length xs) s) (some : length xs ≡ 0 → ⊥)
-    (o : SFits w16 by.offset) (f : SFits w16 (get_or xs 0 (pos 0))) (b : Moving) (e : b ≡ begun s.sums)
-    (read : m ≡ moved by b (to_z w16 (of_z w16 (get_or xs 0 (pos 0))))) where
+module _ (by : Counting) (T : Thresholds) (s : State) (xs : List ℤ) (m : Moving) (w : Within by T (length xs) s) (some : 0 < length xs) (x : ℤ) (head : x ≡ get_or xs 0 (pos 0))
+    (o : SFits w16 by.offset) (f : SFits w16 x) (b : Moving) (e : b ≡ begun s.sums) (read : m ≡ moved by b (to_z w16 (of_z w16 x))) where
   first : m ≡ moved by (begun s.sums) (get_or xs 0 (pos 0))
-  first = read ∙ ap₂ (moved by) e (to_z-of_z {w = w16} f)
+  first = read ∙ ap₂ (moved by) e (to_z-of_z {w = w16} f ∙ head)
 
   pub first_room : Room (length xs - 1) m
   first_room =
-      room_after by (begun s.sums) m _ 0 (length xs) (pos_of_ne-zero some) (record { k_max = w.k_max; offset_fits = o }) f first
+      room_after by (begun s.sums) m _ 0 (length xs) some (record { k_max = w.k_max; offset_fits = o }) (subst (SFits w16) head f) first
       (room_less _ _ (begun s.sums) (omega arith) (room_first s.sums _ w.sums w.room w.few))
 
   pub started : (c : Counters) (band : Band) → band.list.now ≡ T → band.low ≤ m.q → m.q < band.high → s.sums.sq.low < 2 ^ 64
@@ -137,8 +136,8 @@ module _ (by : Counting) (T : Thresholds) (s : State) (xs : List ℤ) (m : Movin
         rest =
             ap (λ (z : List ℕ). led_by by T s.sums m band.low 0 z c.a c.h xs) none
             ∙ ap₂ (λ (x : List Samples) (y : List ℕ). led by T (ended s.sums m (min (0 + 1) (length xs))) x y xs) (sym (at_first_counts T by.i band.low c.a c.h la lh past past_h)) (sym (at_first_hangovers T by.i band.low c.a c.h la lh past past_h))
-            ∙ sym (step_is by T s.sums (ended s.sums m (min (0 + 1) (length xs))) c.a c.h xs 0 (pos_of_ne-zero some)
-            (ended_at by s.sums (begun s.sums) m _ 0 (length xs) (pos_of_ne-zero some) first ∙ ap (λ (t : Sums). summed by t (get_or xs 0 (pos 0))) (ended_none s.sums fits)))
+            ∙ sym (step_is by T s.sums (ended s.sums m (min (0 + 1) (length xs))) c.a c.h xs 0 some
+            (ended_at by s.sums (begun s.sums) m _ 0 (length xs) some first ∙ ap (λ (t : Sums). summed by t (get_or xs 0 (pos 0))) (ended_none s.sums fits)))
             ∙ ap (λ (x : State). state_after by T x xs) same;
       }
     where

@@ -24,6 +24,8 @@ pub struct Band<'a> {
 }
 
 impl<'a> Band<'a> {
+    ghost use Rattle.sample.specs.Inner.Around.{Around};
+
     // Below the first threshold.
     pub fn lowest(list: &'a Thresholds) -> Band<'a>
         requires { (0 < list.now.count) × (list.now.count ≤ places) }
@@ -47,9 +49,7 @@ impl<'a> Band<'a> {
     // The band around an envelope, from this one on.
     pub fn around(self, q: u64) -> Band<'a>
         requires { q ≤ 2 ^ 40 }
-        ensures list { result.list.now ≡ self.entry.list.now }
-        ensures from { result.low ≤ q }
-        ensures to { q < result.high }
+        ensures { Around self.entry.list.now q result }
     {
         if q < self.low {
             self.fallen(q)
@@ -61,9 +61,7 @@ impl<'a> Band<'a> {
     // The band around an envelope that lies below this one.
     fn fallen(self, q: u64) -> Band<'a>
         requires { q < self.low }
-        ensures list { result.list.now ≡ self.entry.list.now }
-        ensures from { result.low ≤ q }
-        ensures to { q < result.high }
+        ensures { Around self.entry.list.now q result }
     {
         let mut band = self;
         while q < band.low {
@@ -75,9 +73,7 @@ impl<'a> Band<'a> {
     // The band around an envelope that lies in this one or above it.
     fn risen(self, q: u64) -> Band<'a>
         requires { (self.low ≤ q) × (q ≤ 2 ^ 40) }
-        ensures list { result.list.now ≡ self.entry.list.now }
-        ensures from { result.low ≤ q }
-        ensures to { q < result.high }
+        ensures { Around self.entry.list.now q result }
     {
         let mut band = self;
         while band.high <= q {
@@ -125,7 +121,11 @@ fn high_end(list: &Thresholds, below: usize) -> u64
     requires { list.now.count ≤ places }
     ensures { result ≡ high_end (threshold_of list.now) list.now.count below }
 {
-    if below < list.count { list.at[below] } else { TOP }
+    if below < list.count {
+        list.at[below]
+    } else {
+        TOP
+    }
 }
 
 // And where it begins.

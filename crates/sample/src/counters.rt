@@ -5,7 +5,7 @@ ghost use Rattle.thresholds.specs.Lists.{places};
 ghost use Rattle.sample.specs.Inner.Over.{count_over, hangover_over, between};
 
 use crate::band::Band;
-use level::Samples;
+use level::{Quantity, Samples};
 use thresholds::PLACES;
 
 // The counts, the hangovers, which are at most I, and the indices.
@@ -52,8 +52,8 @@ impl Counters {
     {
         for j in from..to {
             let run = at - self.since[j];
-            let (count, hangover) = after_run(self.a[j].count(), self.h[j], on, run, self.i);
-            self.a[j] = Samples::of(count);
+            let (count, hangover) = after_run(self.a[j].number(), self.h[j], on, run, self.i);
+            self.a[j] = Samples::from(count);
             self.h[j] = hangover;
             self.since[j] = at;
         }

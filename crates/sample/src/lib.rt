@@ -54,14 +54,19 @@ impl State {
         requires { Within by list (length xs.now) self }
         ensures { result ≡ state_after by list self xs.now }
     {
-        if xs.is_empty() {
+        let Some(&first) = xs.first() else {
             return self;
-        }
+        };
         let State { sums, a, h } = self;
-        let mut moving = sums.begin().step(by, xs[0]);
+        let mut moving = sums.begin().step(by, first);
         let mut band = Band::lowest(&list).around(moving.q);
         let since = [0; PLACES];
-        let mut counters = Counters { a, h, since, i: by.i };
+        let mut counters = Counters {
+            a,
+            h,
+            since,
+            i: by.i,
+        };
         let mut at = 0;
         while at < xs.len() {
             let run = run_on(moving, by, band, xs, at);

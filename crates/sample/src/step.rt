@@ -4,7 +4,7 @@ ghost use Rattle.sample.specs.Envelope.{smooth, size};
 ghost use Rattle.sample.specs.Inner.Steps.{begun, moved, ended, Steppable, Endable, Smoothable, Addable};
 
 use crate::{Counting, Sums};
-use level::Samples;
+use level::{Quantity, Samples};
 
 // K is in parts of this.
 const SMOOTHING: u64 = 1 << 20;
@@ -61,7 +61,7 @@ impl Sums {
         ensures { result ≡ ended self last new }
     {
         Sums {
-            n: Samples::of(self.n.count() + new as u64),
+            n: Samples::from(self.n.number() + new as u64),
             s: last.s,
             sq: self.sq.grown(last.sq),
             p: last.p,

@@ -1,13 +1,10 @@
--- The first sample leads to the first band, each run to the next one; at the end what the samples lead to from plain counts is what they lead to from the state.
-use Rattle.std.proofs.Common.{refl, List, [], ◌∷◌, ◌≡◌, ap, ◌∙◌, sym, ℤ, length, rules, arith}
-use Rattle.level.specs.declared.Samples.{Samples}
-use Rattle.level.specs.Types.{samples_of}
+-- The first sample leads to the first band, each run to the next one; at the end the counters are settled.
+use Rattle.std.proofs.Common.{refl, List, [], ◌∷◌, ◌≡◌, ◌∙◌, ℤ, length, rules, arith}
 use Rattle.thresholds.specs.declared.Thresholds.{Thresholds}
 use Rattle.sample.specs.declared.Counting.{Counting}
 use Rattle.sample.specs.declared.State.{State}
 use Rattle.sample.specs.Sample.{list_from, state_after}
-use Rattle.sample.specs.Inner.Steps.{moved}
-use Rattle.sample.proofs.Turning.{first_room, h_within, started, standing, turned, finished}
+use Rattle.sample.proofs.Turning.{first_room, started, standing, turned, finished}
 use Rattle.sample.proofs.State.after.Goals as goal
 
 -- no sample
@@ -16,19 +13,19 @@ unfolding state_after
 empty by t m [] e = refl
 empty by t m (x ∷ xs) e = absurd (omega (arith, e))
 
-pub returns-then-is_empty : goal.returns-then-is_empty
-returns-then-is_empty c = empty _ _ _ _ (search rules)
+pub returns-in_default : goal.returns-in_default
+returns-in_default c = empty _ _ _ _ (search rules)
 
 pub around-band-requires : goal.around-band-requires
 around-band-requires c =
-    (first_room c.args.by c.args.list c.args.self c.args.xs.now _ c.requires (search rules) (record { sfits = search rules }) (record { sfits = search rules })
+    (first_room c.args.by c.args.list c.args.self c.args.xs.now _ c.requires (search rules) c.in-Some.field-0.now (search rules) (record { sfits = search rules }) (record { sfits = search rules })
     _ c.begin.ensures c.step-moving.ensures).q_max
 
 pub loop-at-init : goal.loop-at-init
 unfolding list_from
 loop-at-init c =
     let b = c.around-band.ensures in
-    started c.args.by c.args.list c.args.self c.args.xs.now _ c.requires (search rules) (record { sfits = search rules }) (record { sfits = search rules })
+    started c.args.by c.args.list c.args.self c.args.xs.now _ c.requires (search rules) c.in-Some.field-0.now (search rules) (record { sfits = search rules }) (record { sfits = search rules })
     _ c.begin.ensures c.step-moving.ensures
     _ _ (b.list ∙ c.lowest.ensures) b.from b.to (search rules) (search rules) (search rules) refl refl refl refl
 

@@ -1,5 +1,5 @@
 -- What a sample leaves goes on in the band, or ends the run.
-use Rattle.std.proofs.Common.{rules, arith}
+use Rattle.std.proofs.Common.{rules}
 use Rattle.sample.proofs.Ran.{set_out, run_out, gone_out, gone_on}
 use Rattle.sample.proofs.runs.run_on.Goals as goal
 

@@ -1,5 +1,5 @@
 -- The counter of a place is as it was until its turn, and after it what the closed forms say.
-use Rattle.std.proofs.Common.{◌∙◌, ap, arith, rules}
+use Rattle.std.proofs.Common.{ap, arith, rules}
 use Rattle.level.specs.declared.Samples.{Samples}
 use Rattle.sample.proofs.Settling.{none_yet, untouched, one_more, hung_within}
 use Rattle.sample.proofs.counters.Counters.settle.Goals as goal
@@ -24,5 +24,5 @@ loop-j-preserved c =
       a_length = search rules;
       h_length = search rules;
       same = l.invariant.same;
-      each_one = one_more _ _ _ _ l.self l.j l.auto.j (omega arith) l.invariant (search rules) _ _ (cc (ap (λ (n : Samples). n.0) c.of.ensures, c.after_run-count.ensures.count, c.count.ensures)) c.after_run-count.ensures.hangover;
+      each_one = one_more _ _ _ _ l.self l.j l.auto.j (omega arith) l.invariant (search rules) _ _ (cc (ap (λ (n : Samples). n.0) c.from.ensures, c.after_run-count.ensures.count, c.number.ensures)) c.after_run-count.ensures.hangover;
     }
