@@ -1,17 +1,16 @@
 -- The built-in list, and what a list that loads is.
-use mathlib.Core.Bool.{Bool, true, false, ◌||◌}
-use mathlib.Core.List.{[], ◌∷◌}
+use mathlib.Core.Bool.{Bool, false, ◌||◌}
+use mathlib.Core.Logic.{⊎_elim}
 use mathlib.Core.Path.{◌≡◌, refl, sym, ap, ◌∙◌, subst}
 use Prim.Native.Nat.{ℕ, zero, suc, ◌+◌, ◌-◌, ◌*◌, ◌^◌, ◌≤◌, ◌<◌}
 use native.Mathlib.Nat.{le_of_eq, le_trans, add-zero, two-pow-succ}
 use native.Mathlib.Omega.{arith}
-use borrow.Author.Tests.{ltb-true, ltb-false, leb-false}
-use lib.Dec.{leb, ltb}
-use lib.ListN.{length, get_or, get_or-eq_default}
-use Rattle.std.proofs.lemmas.Bool.{or_parts}
+use lib.ListN.{get_or-eq_default}
+use Rattle.std.proofs.lemmas.Bool.{cases_lt, or_parts}
+use Rattle.std.proofs.lemmas.Bool.Decides.{nat_tests}
 use Rattle.refusal.specs.First.{first_of}
 use Rattle.thresholds.specs.declared.Thresholds.{Thresholds}
-use Rattle.thresholds.specs.Lists.{places, fewest, threshold_of, doubled, built_in_count, built_in_list, wrong_length, wrong_entry, wrong_end, wrong_pair, outside, filled, list_rules, unloadable}
+use Rattle.thresholds.specs.Lists.{places, fewest, threshold_of, doubled, built_in_count, built_in_list, wrong_length, wrong_entry, wrong_end, wrong_pair, filled, list_rules, unloadable}
 use Rattle.thresholds.specs.Rising.{Rising}
 use Rattle.thresholds.specs.Places.{some_below, some_from, each, list_from, up_to}
 use Rattle.thresholds.proofs.Below.{each_below, each_from}
@@ -20,10 +19,9 @@ use Rattle.thresholds.proofs.Places.{list_length, each_at, up_to_past, filled_at
 pub doubled_is : (j : ℕ) → doubled j ≡ 2 ^ (j + 24)
 unfolding doubled
 doubled_is zero = refl
-doubled_is (suc j) = ap (λ (x : ℕ). 2 * x) (doubled_is j) ∙ twice (j + 24) ∙ ap (λ (e : ℕ). 2 ^ e) (omega arith)
-  where
-    twice : (e : ℕ) → 2 * 2 ^ e ≡ 2 ^ suc e
-    twice e = omega (arith, two-pow-succ e)
+doubled_is (suc j) =
+    let e : 2 * doubled j ≡ 2 ^ suc (j + 24) = omega (arith, doubled_is j, two-pow-succ (j + 24)) in
+    e ∙ ap (λ (k : ℕ). 2 ^ k) (omega arith)
 
 -- the built-in list is document 01's: c_j is 2^(j + 24)
 pub built_in_is : (j : ℕ) → j < built_in_count → threshold_of built_in_list j ≡ 2 ^ (j + 24)
@@ -33,11 +31,10 @@ built_in_is j l = filled_at places built_in_count doubled j (omega arith) l ∙ 
 -- and past its end there are zeros
 pub built_in_past : (j : ℕ) → built_in_count ≤ j → threshold_of built_in_list j ≡ 0
 unfolding built_in_list
-built_in_past j l = go (ltb j places) refl
-  where
-    go : (t : Bool) → ltb j places ≡ t → get_or (each places (up_to built_in_count doubled)) j 0 ≡ 0
-    go true h = each_at 0 places (up_to built_in_count doubled) j (ltb-true j places h) ∙ up_to_past built_in_count doubled j l
-    go false h = let past : length (each places (up_to built_in_count doubled)) ≤ j = omega (arith, list_length (up_to built_in_count doubled) 0 places, ltb-false j places h) in get_or-eq_default (each places (up_to built_in_count doubled)) 0 past
+built_in_past j l =
+    let at = each places (up_to built_in_count doubled) in
+    ⊎_elim (λ h. each_at 0 places (up_to built_in_count doubled) j h ∙ up_to_past built_in_count doubled j l)
+    (λ h. get_or-eq_default at 0 (omega (arith, list_length (up_to built_in_count doubled) 0 places))) (cases_lt j places)
 
 pub built_in_count_lem : built_in_list.count ≡ built_in_count
 unfolding built_in_list
@@ -51,27 +48,9 @@ built_in_loads = refl
 -- ---- a list that loads
 
 -- by the number that opening gives
-accepted : (x y z : Bool) → 0 ≡ first_of ((19, x) ∷ (20, y) ∷ (21, z) ∷ []) → false ≡ x || (y || z)
-unfolding first_of
-accepted true y z e = absurd (omega (arith, e))
-accepted false true z e = absurd (omega (arith, e))
-accepted false false true e = absurd (omega (arith, e))
-accepted false false false e = refl
-
-refused : (k : ℕ) (x y z : Bool) → 0 < k → k ≡ first_of ((19, x) ∷ (20, y) ∷ (21, z) ∷ []) → true ≡ x || (y || z)
-unfolding first_of
-refused k true y z l e = refl
-refused k false true z l e = refl
-refused k false false true l e = refl
-refused k false false false l e = absurd (omega (arith, e))
-
 pub accepted_loads : (t : Thresholds) → 0 ≡ first_of (list_rules t) → false ≡ unloadable t
-unfolding list_rules unloadable
-accepted_loads t e = accepted (wrong_length t) (wrong_entry t) (wrong_end t) e
-
-pub refused_unloadable : (k : ℕ) (t : Thresholds) → 0 < k → k ≡ first_of (list_rules t) → true ≡ unloadable t
-unfolding list_rules unloadable
-refused_unloadable k t l e = refused k (wrong_length t) (wrong_entry t) (wrong_end t) l e
+unfolding list_rules unloadable first_of
+accepted_loads t e = grind (arith, nat_tests)
 
 pub record Loaded (t : Thresholds) : Type 0 where
   pub least : fewest ≤ t.count
@@ -86,32 +65,19 @@ pair_at t j = wrong_pair (threshold_of t j) (threshold_of t (j + 1))
 
 pub length_in : (t : Thresholds) → wrong_length t ≡ false → (fewest ≤ t.count) × (t.count ≤ places)
 unfolding wrong_length
-length_in t u =
-    let past = some_from t.count places (filled t) in
-    let l = or_parts (ltb t.count fewest) (ltb places t.count || past) u in
-    (ltb-false t.count fewest l.0, ltb-false places t.count (or_parts (ltb places t.count) past l.1).0)
+length_in t u = grind (arith, nat_tests)
 
 past_in : (t : Thresholds) → wrong_length t ≡ false → (j : ℕ) → t.count ≤ j → j < places → threshold_of t j ≡ 0
 unfolding wrong_length
-past_in t u j l h =
-    let past = some_from t.count places (filled t) in
-    let n = or_parts (ltb places t.count) past (or_parts (ltb t.count fewest) (ltb places t.count || past) u).1 in
-    omega (arith, ltb-false 0 (threshold_of t j) (each_from t.count places (filled t) n.1 j l h))
+past_in t u j l h = grind (arith, nat_tests, each_from t.count places (filled t))
 
 entries_in : (t : Thresholds) → wrong_entry t ≡ false → (j : ℕ) → j + 1 < t.count → threshold_of t j < threshold_of t (j + 1)
 unfolding wrong_entry
-entries_in t u j h =
-    let x = threshold_of t j in
-    let y = threshold_of t (j + 1) in
-    leb-false y x (or_parts (leb y x) _ (each_below (t.count - 1) (pair_at t) u j (omega arith))).0
+entries_in t u j h = let p = each_below (t.count - 1) (pair_at t) u j (omega arith) in grind (arith, nat_tests)
 
 ends_in : (t : Thresholds) → wrong_end t ≡ false → (2 ^ 22 ≤ threshold_of t 0) × (threshold_of t (t.count - 1) ≤ 2 ^ 39)
 unfolding wrong_end
-ends_in t u =
-    let f = threshold_of t 0 in
-    let l = threshold_of t (t.count - 1) in
-    let n = or_parts (outside (2 ^ 22) (2 ^ 24) f) (outside (2 ^ 37) (2 ^ 39) l) u in
-    (ltb-false f (2 ^ 22) (or_parts (ltb f (2 ^ 22)) (ltb (2 ^ 24) f) n.0).0, ltb-false (2 ^ 39) l (or_parts (ltb l (2 ^ 37)) (ltb (2 ^ 39) l) n.1).1)
+ends_in t u = grind (arith, nat_tests)
 
 pub loaded : (t : Thresholds) → unloadable t ≡ false → Loaded t
 unfolding unloadable

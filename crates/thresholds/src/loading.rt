@@ -39,7 +39,7 @@ impl Thresholds {
     }
 
     // Whether the list would not load.
-    #[tactic(auto, using(crate::proofs::Laws::accepted_loads, crate::proofs::Laws::refused_unloadable, refusal::proofs::Laws::positive))]
+    #[tactic(auto, using(refusal::proofs::Laws::positive), unfolding(crate::specs::Lists::list_rules, crate::specs::Lists::unloadable, refusal::specs::First::first_of))]
     pub fn is_unloadable(&self) -> bool
         ensures { result ≡ unloadable self.now }
     {
