@@ -1,6 +1,7 @@
 pub mod Bounds
 pub mod BuiltIn
-mod Differences
 mod Downwards
+mod Interpolation
 pub mod Searching
+mod Signs
 mod Sizes

@@ -1,10 +1,9 @@
 -- The search for the highest place at which a test holds: what is found lies in range and holds the test, which no higher place there does, and
 -- where nothing is found no place does. So there is a highest such place wherever there is any.
 use mathlib.Core.Bool.{Bool, true, false, cond, true≢false}
-use mathlib.Core.Logic.{⊎_elim}
-use mathlib.Core.Path.{◌≡◌, refl, sym, ap, ◌∙◌, subst}
-use Prim.Native.Nat.{ℕ, zero, suc, ◌≤◌, ◌<◌}
-use native.Mathlib.Nat.{eq-or-lt_of_le}
+use borrow.Author.Count.{below_more}
+use mathlib.Core.Path.{◌≡◌, refl, sym, ◌∙◌, subst}
+use Prim.Native.Nat.{ℕ, zero, suc, ◌-◌, ◌<◌}
 use native.Mathlib.Omega.{arith}
 use Rattle.std.specs.Prelude.{Option, Some, None}
 use Rattle.crossing.specs.Crossing.{highest_below}
@@ -20,18 +19,14 @@ Search : (f : ℕ → Bool) (k : ℕ) → Option ℕ → Type 0
 Search f k None = (p : ℕ) → p < k → f p ≡ false
 Search f k (Some p) = Highest f k p
 
--- a place up to k is k, or one below it
-up_to : (f : ℕ → Bool) (k l : ℕ) → l < suc k → f k ≡ false → (l < k → f l ≡ false) → f l ≡ false
-up_to f k l h e rest = let u : l ≤ k = omega arith in ⊎_elim (λ s. ap f s ∙ e) rest (eq-or-lt_of_le u)
-
 later : (f : ℕ → Bool) (k : ℕ) (o : Option ℕ) → f k ≡ false → Search f k o → Search f (suc k) o
 unfolding Search
-later f k None e h = λ p u. up_to f k p u e (h p)
+later f k None e h = λ p u. below_more (λ l. f l ≡ false) k h e p (omega arith)
 later f k (Some p) e h =
     record {
       place = omega (arith, h.place);
       holds = h.holds;
-      none_higher = λ l m u. up_to f k l u e (h.none_higher l m);
+      none_higher = λ l m u. below_more (λ l. p < l → f l ≡ false) k (λ l u m. h.none_higher l m u) (λ m. e) l (omega arith) m;
     }
 
 search_below : (f : ℕ → Bool) (k : ℕ) → Search f k (highest_below f k)
@@ -51,15 +46,11 @@ pub not_found : (f : ℕ → Bool) (k : ℕ) → highest_below f k ≡ None → 
 unfolding Search
 not_found f k e = subst (Search f k) e (search_below f k)
 
--- ---- one place at a time
-
-pub here : (f : ℕ → Bool) (k : ℕ) → f k ≡ true → highest_below f (suc k) ≡ Some k
+-- one place at a time
+pub step : (f : ℕ → Bool) (j : ℕ) → 0 < j → highest_below f j ≡ cond (f (j - 1)) (Some (j - 1)) (highest_below f (j - 1))
 unfolding highest_below
-here f k e = simp e
-
-pub past : (f : ℕ → Bool) (k : ℕ) → f k ≡ false → highest_below f (suc k) ≡ highest_below f k
-unfolding highest_below
-past f k e = simp e
+step f zero l = absurd (omega arith)
+step f (suc j) l = let e : suc j - 1 ≡ j = omega arith in rw e
 
 -- from any place at which f holds the search finds the highest
 pub highest : (f : ℕ → Bool) (k p : ℕ) → p < k → f p ≡ true → (q : ℕ) × Highest f k q

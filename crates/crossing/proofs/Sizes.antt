@@ -35,3 +35,8 @@ few k a f zero l = f.few
 few k a f (suc j) l =
     let e : j ≡ suc j - 1 = omega arith in
     le_trans (falls k a f (suc j) l (omega arith)) (subst (λ (i : ℕ). activity a i ≤ 2 ^ 80) e (few k a f j (omega arith)))
+
+-- no count before one above 0 is 0
+pub still : (k : ℕ) (a : List Samples) → Falling k a → (i : ℕ) → i < k → 0 < activity a i → 0 < activity a (i - 1)
+still k a f zero l h = h
+still k a f (suc i) l h = omega (arith, h, falls k a f (suc i) l (omega arith))

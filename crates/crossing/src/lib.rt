@@ -44,7 +44,7 @@ impl From<NoCrossing> for Refusal {
 }
 
 // The levels of n samples with the sum of squares sq and, at a list of thresholds, the activity counts a.
-#[tactic(auto, using(crate::proofs::Sizes::level_read, crate::proofs::Searching::found), unfolding(crate::specs::Searched::said, crate::specs::Searched::searched, crate::specs::Searched::levels_for, crate::specs::Searched::crossing_in, crate::specs::Searched::first_excess, crate::specs::Crossing::crossing))]
+#[tactic(auto, using(crate::proofs::Sizes::level_read, crate::proofs::Searching::found), unfolding(crate::specs::Crossing::crossing))]
 pub fn find_levels(
     n: Samples,
     sq: Squares,

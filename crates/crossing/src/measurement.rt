@@ -75,7 +75,7 @@ impl Measurement<'_> {
 
     // The highest crossing: the first that is met downwards from the highest threshold that counted
     // anything.
-    #[tactic(auto, using(crate::proofs::Downwards::begins, crate::proofs::Downwards::ends, crate::proofs::Downwards::past_empty, crate::proofs::Downwards::past, crate::proofs::Downwards::at_zero))]
+    #[tactic(auto, using(crate::proofs::Downwards::turns))]
     pub(crate) fn crossing(&self) -> Option<usize>
         ensures { result ≡ highest_crossing self.now }
     {
@@ -105,7 +105,7 @@ impl Measurement<'_> {
     }
 
     // At a crossing j: A_j where d_j is 0, else between A_(j−1) and A_j.
-    #[tactic(auto, using(std::proofs::lemmas::Bool::Decides::nat_tests, crate::proofs::Downwards::by_signs, crate::proofs::Downwards::zero_by_sign, crate::proofs::Bounds::rises_lem, crate::proofs::Sizes::falls, crate::proofs::Sizes::few), unfolding(crate::specs::Crossing::lower_of, crate::specs::Crossing::active_level))]
+    #[tactic(auto, using(crate::proofs::Interpolation::at_crossing), unfolding(crate::specs::Crossing::lower_of, crate::specs::Crossing::active_level))]
     pub(crate) fn active_at(&self, j: usize) -> Active
         requires place { j < self.now.thresholds.now.count }
         requires crosses { is_crossing_at self.now j ≡ true }
@@ -129,7 +129,7 @@ impl Measurement<'_> {
 
 impl Point {
     // The level that lies between two as 0 lies between their differences, rounded towards the first.
-    #[tactic(auto, using(crate::proofs::Differences::floored, crate::proofs::Differences::part_small))]
+    #[tactic(auto, using(crate::proofs::Interpolation::between))]
     fn up_to(self, upper: Point) -> Steps
         requires rises { pos 0 ≤ℤ (upper.active.0 -ℤ self.active.0) }
         requires above { lt_z (pos 0) self.excess.0 ≡ true }

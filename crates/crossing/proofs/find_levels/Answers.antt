@@ -1,5 +1,5 @@
 -- What is found at the highest crossing are the levels that the definition has there.
-use Rattle.std.proofs.Common.{◌≡◌, List, Some, Ok, ℕ, ℤ, pos, ◌-ℤ◌, ◌∙◌}
+use Rattle.std.proofs.Common.{◌≡◌, List, Some, Ok, ℕ, ℤ, pos, ◌-ℤ◌, ◌∙◌, arith}
 use Rattle.level.specs.Logarithm.{lev}
 use Rattle.level.specs.Types.{steps_of}
 use Rattle.level.specs.declared.Samples.{Samples}
@@ -7,7 +7,7 @@ use Rattle.level.specs.declared.Steps.{Steps}
 use Rattle.thresholds.specs.declared.Thresholds.{Thresholds}
 use Rattle.crossing.specs.Crossing.{crossing, lower_of, active_level}
 use Rattle.crossing.specs.Levels.{long_term}
-use Rattle.crossing.specs.Searched.{said, searched, levels_for, levels_at, crossing_in}
+use Rattle.crossing.specs.Searched.{said, searched, levels_for, levels_at, crossing_in, first_excess}
 use Rattle.crossing.proofs.Sizes.{level_read}
 use Rattle.crossing.proofs.find_levels.Goals as goal
 
@@ -18,6 +18,10 @@ unfolding said searched levels_for levels_at crossing_in long_term
 read_at M S n sq j lower T a L A C F s x l e b c f =
     let y : crossing M (pos (lev sq)) T a ≡ Some j = cc in
     simp (y, l, e, b, c, f, s)
+
+pub returns-in_default : goal.returns-in_default
+unfolding said searched levels_for crossing_in first_excess
+returns-in_default c = grind (arith, level_read)
 
 pub returns : goal.returns
 returns c =
