@@ -9,7 +9,7 @@ use mir.Val.{SFits}
 use Rattle.level.specs.declared.Squares.{Squares}
 use Rattle.level.specs.Types.{samples_of, two_words, words, most_samples}
 use Rattle.level.proofs.Words.{two_of_words, words_of_two}
-use Rattle.signed.proofs.Sizes.{abs_sum}
+use Rattle.std.proofs.lemmas.Int.{ints}
 use Rattle.sample.specs.declared.Counting.{Counting}
 use Rattle.sample.specs.declared.Sums.{Sums}
 use Rattle.sample.specs.declared.step.Moving.{Moving}
@@ -18,7 +18,7 @@ use Rattle.sample.specs.Inner.Steps.{begun, moved, ended, Room}
 use Rattle.sample.specs.Sample.{summed}
 use Rattle.sample.specs.StateAfter.{BoundedSums}
 use Rattle.sample.proofs.Envelope.{smooth_le}
-use Rattle.sample.proofs.Signs.{small, size_small}
+use Rattle.sample.proofs.Signs.{size_small}
 
 -- ---- it stands for the sums
 
@@ -74,15 +74,12 @@ room_kept by left m x b f r =
     let sx = size_small by.offset x b.offset_fits f in
     let P = smooth_le by.k (2 ^ 40) m.p (size by.offset x * 2 ^ 24) b.k_max r.p_max (omega (arith, sx)) in
     record {
-      s_max = s_more _ _ _ left (abs_sum m.s x) (small x f) r.s_max;
+      s_max = omega (arith, ints, r.s_max);
       sq_max = sq_more m.sq _ left (mul-le-mul sx sx) r.sq_max;
       p_max = P;
       q_max = smooth_le by.k (2 ^ 40) m.q _ b.k_max r.q_max P;
     }
   where
-    s_more : (s x t left : ℕ) → t ≤ s + x → x ≤ 2 ^ 15 → s + (left + 1) * 2 ^ 15 ≤ 2 ^ 63 → t + left * 2 ^ 15 ≤ 2 ^ 63
-    s_more s x t left a b d = omega arith
-
     sq_more : (sq y left : ℕ) → y ≤ 2 ^ 16 * 2 ^ 16 → sq + (left + 1) * 2 ^ 32 < 2 ^ 64 → sq + y + left * 2 ^ 32 < 2 ^ 64
     sq_more sq y left h r = omega arith
 

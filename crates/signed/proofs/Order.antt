@@ -4,8 +4,8 @@ use mathlib.Core.Path.{◌≡◌}
 use Prim.Native.Nat.{ℕ, suc, ◌+◌, ◌≤◌}
 use native.Mathlib.Omega.{arith}
 use lib.IntN.{ℤ, pos, negsuc, ◌-ℤ◌}
-use lib.Signed.{lt_z, le_z}
-use Rattle.std.specs.Ordering.{int_cmp, is_lt, is_le}
+use lib.Signed.{le_z}
+use Rattle.std.specs.Ordering.{int_cmp, is_le}
 use Rattle.std.proofs.lemmas.Bool.Decides.{nat_tests}
 use Rattle.std.proofs.lemmas.Int.{ints}
 
@@ -21,9 +21,6 @@ pub at_most_test : (a b : ℕ) (z : ℤ) → AtMost a b z → le_z (pos a -ℤ p
 at_most_test a b z h = grind (arith, ints)
 
 -- ---- the derived order is that of the tests
-
-pub is_lt_z : (x y : ℤ) → is_lt (int_cmp x y) ≡ lt_z x y
-is_lt_z x y = grind (arith, nat_tests, ints)
 
 pub is_le_z : (x y : ℤ) → is_le (int_cmp x y) ≡ le_z x y
 is_le_z x y = grind (arith, nat_tests, ints)
