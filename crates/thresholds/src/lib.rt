@@ -17,7 +17,8 @@ const BUILT_IN: usize = 15;
 // One quantizing interval in units: the first threshold of the built-in list.
 const INTERVAL: u64 = 1 << 24;
 
-// So many thresholds, in units of 2^-24 quantizing interval, and zeros past them.
+// So many thresholds, in units of 2^-24 quantizing interval, and zeros past them. An array and a count,
+// since memory is fixed and the theorems read both.
 #[derive(Clone, Copy)]
 pub struct Thresholds {
     pub count: usize,
@@ -38,8 +39,8 @@ impl Thresholds {
         }
     }
 
-    // A list as it is handed in. Of one that is too long the first places are held: it is refused by its
-    // length.
+    // A list as it is handed in. Of one that is too long the first places are held, so this is no From: it
+    // is refused by its length.
     pub fn of(list: &[u64]) -> Thresholds
         ensures { result ≡ held_of list.now }
     {
