@@ -1,7 +1,7 @@
 -- How large the level of a number is, from the logarithm's facts alone, and how large counts that fall are.
 use mathlib.Core.List.{List}
-use mathlib.Core.Path.{◌≡◌, sym, subst}
-use Prim.Native.Nat.{ℕ, zero, suc, ◌+◌, ◌*◌, ◌-◌, ◌^◌, ◌≤◌, ◌<◌}
+use mathlib.Core.Path.{◌≡◌, sym}
+use Prim.Native.Nat.{ℕ, zero, suc, ◌*◌, ◌-◌, ◌^◌, ◌≤◌, ◌<◌}
 use native.Mathlib.Nat.{le_trans, le_of_eq, lt_of_le_of_lt, pow-le-pow_left, two-pow-succ}
 use native.Mathlib.Omega.{arith}
 use lib.IntN.{pos}
@@ -28,13 +28,11 @@ level_read n l v h u = (level_known n l h u v, omega (arith, exponent (lev n) n 
 
 -- counts that fall: each is at most the one before, and the first
 pub falls : (k : ℕ) (a : List Samples) → Falling k a → (j : ℕ) → j < k → 1 ≤ j → activity a j ≤ activity a (j - 1)
-falls k a f j l h = let e : j - 1 + 1 ≡ j = omega arith in subst (λ (i : ℕ). activity a i ≤ activity a (j - 1)) e (f.falls (j - 1) (omega arith))
+falls k a f j l h = grind (arith, f.falls (j - 1))
 
 pub few : (k : ℕ) (a : List Samples) → Falling k a → (j : ℕ) → j < k → activity a j ≤ 2 ^ 80
 few k a f zero l = f.few
-few k a f (suc j) l =
-    let e : j ≡ suc j - 1 = omega arith in
-    le_trans (falls k a f (suc j) l (omega arith)) (subst (λ (i : ℕ). activity a i ≤ 2 ^ 80) e (few k a f j (omega arith)))
+few k a f (suc j) l = grind (arith, few k a f j, f.falls j)
 
 -- no count before one above 0 is 0
 pub still : (k : ℕ) (a : List Samples) → Falling k a → (i : ℕ) → i < k → 0 < activity a i → 0 < activity a (i - 1)
