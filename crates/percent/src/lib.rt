@@ -35,7 +35,7 @@ pub fn percentage(factor: Steps) -> Hundredths
 }
 
 // Whether t is at most 10000, and its level, less that of 10000, not above the factor.
-#[tactic(auto, using(signed::proofs::Order::is_le_z), unfolding(crate::specs::Inner::passes, crate::specs::Percent::not_above))]
+#[tactic(auto, unfolding(crate::specs::Inner::passes, crate::specs::Percent::not_above))]
 fn passes(t: u64, factor: Steps, top: Steps) -> bool
     requires { Trial t top.0 }
     ensures { result ≡ passes factor.0 t }
