@@ -9,6 +9,7 @@ use borrow.Author.Tests.{eqb-true, eqb-false, ltb-true, ltb-false, leb-true, lt-
 use lib.Dec.{T, eqb, leb, ltb}
 use lib.ListN.{length, get_or, set}
 use lib.Seq.{get_or-set_same, get_or-set_other}
+use Rattle.std.proofs.lemmas.Bool.Decides.{nat_tests}
 use Rattle.level.specs.declared.Samples.{Samples}
 use Rattle.level.specs.Types.{samples_of, activity}
 use Rattle.thresholds.specs.Lists.{places}
@@ -21,58 +22,34 @@ use Rattle.sample.proofs.Over.{no_count_lem, no_hangover, count_over_le, hangove
 
 pub between_in : (from to j : ℕ) → from ≤ j → j < to → between from to j ≡ true
 unfolding between
-between_in from to j l h = simp (le-leb from j l, lt-ltb j to h)
+between_in from to j l h = grind (arith, nat_tests)
 
 pub between_past : (from to j : ℕ) → to ≤ j → between from to j ≡ false
 unfolding between
-between_past from to j h = ap (λ (b : Bool). leb from j && b) (le-ltb j to h) ∙ mathlib.Core.Bool.and-false (leb from j)
+between_past from to j h = grind (arith, nat_tests)
 
 pub in_between : (from to j : ℕ) → between from to j ≡ true → (from ≤ j) × (j < to)
 unfolding between
-in_between from to j e = go (leb from j) refl (ltb j to) refl e
-  where
-    go : (s : Bool) → leb from j ≡ s → (t : Bool) → ltb j to ≡ t → s && t ≡ true → (from ≤ j) × (j < to)
-    go true p true q h = (leb-true from j p, ltb-true j to q)
-    go true p false q h = absurd (subst T (sym h) tt)
-    go false p t q h = absurd (subst T (sym h) tt)
+in_between from to j e = (grind (arith, nat_tests), grind (arith, nat_tests))
 
 pub apart : (from to j : ℕ) → ((from ≤ j) × (j < to) → ⊥) → between from to j ≡ false
-apart from to j f = go (between from to j) refl
-  where
-    go : (t : Bool) → between from to j ≡ t → between from to j ≡ false
-    go true e = absurd (f (in_between from to j e))
-    go false e = e
+unfolding between
+apart from to j f = grind (arith, nat_tests)
 
 -- one place more makes no difference to the others
 between_other : (from j i : ℕ) → (i ≡ j → ⊥) → between from (j + 1) i ≡ between from j i
 unfolding between
-between_other from j i f = ap (λ (b : Bool). leb from i && b) (go (ltb i j) refl)
-  where
-    go : (t : Bool) → ltb i j ≡ t → ltb i (j + 1) ≡ ltb i j
-    go true e = lt-ltb i (j + 1) (omega (arith, ltb-true i j e)) ∙ sym e
-    go false e = le-ltb i (j + 1) (above i j (ltb-false i j e) f) ∙ sym e
-      where
-        above : (i j : ℕ) → j ≤ i → (i ≡ j → ⊥) → j + 1 ≤ i
-        above i j l g = omega (arith, l, g)
+between_other from j i f = grind (arith, nat_tests)
 
 -- a threshold that was not crossed, either way, is still on the same side
 pub uncrossed : (was is j : ℕ) → between was is j || between is was j ≡ false → ltb j was ≡ ltb j is
-uncrossed was is j e = go (ltb j was) refl (ltb j is) refl
-  where
-    go : (x : Bool) → ltb j was ≡ x → (y : Bool) → ltb j is ≡ y → ltb j was ≡ ltb j is
-    go true p true q = p ∙ sym q
-    go true p false q =
-        absurd (subst T (sym (or-true (between was is j)) ∙ ap (λ (b : Bool). between was is j || b) (sym (between_in is was j (ltb-false j is q) (ltb-true j was p))) ∙ e) tt)
-    go false p true q = absurd (subst T (ap (λ (b : Bool). b || between is was j) (sym (between_in was is j (ltb-false j was p) (ltb-true j is q))) ∙ e) tt)
-    go false p false q = p ∙ sym q
+unfolding between
+uncrossed was is j e = grind (arith, nat_tests)
 
 -- those below a place and those from it on are all
 pub all_places : (was k j : ℕ) → j < k → between 0 was j || between was k j ≡ true
-all_places was k j l = go (ltb j was) refl
-  where
-    go : (x : Bool) → ltb j was ≡ x → between 0 was j || between was k j ≡ true
-    go true p = ap (λ (b : Bool). b || between was k j) (between_in 0 was j (omega arith) (ltb-true j was p))
-    go false p = ap (λ (b : Bool). between 0 was j || b) (between_in was k j (ltb-false j was p) l) ∙ or-true (between 0 was j)
+unfolding between
+all_places was k j l = grind (arith, nat_tests)
 
 -- ---- a turn of the loop
 
