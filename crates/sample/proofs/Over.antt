@@ -14,6 +14,7 @@ use Rattle.sample.specs.Sample.{counts, hangovers}
 use Rattle.sample.specs.Inner.Bands.{Clear}
 use Rattle.sample.specs.Inner.Over.{count_over, hangover_over}
 use Rattle.sample.specs.Inner.Runs.{counts_by, hangovers_by}
+use Rattle.std.proofs.lemmas.Bool.Decides.{nat_tests}
 use Rattle.level.specs.declared.Samples.{Samples}
 use Rattle.level.specs.Types.{activity}
 use Rattle.sample.proofs.Activity.{counted_le, hung_le}
@@ -40,19 +41,11 @@ on_hangover I on (suc d) h e z = sym (ap (λ (b : Bool). hangover_over I b (suc 
 
 off_one : (I x h : ℕ) → h ≤ I → counted I false x h ≡ x + min 1 (I - h)
 unfolding counted
-off_one I x h l = go (ltb h I) refl
-  where
-    go : (t : Bool) → ltb h I ≡ t → mathlib.Core.Bool.cond t (x + 1) x ≡ x + min 1 (I - h)
-    go true e = omega (arith, ltb-true h I e)
-    go false e = omega (arith, ltb-false h I e)
+off_one I x h l = grind (arith, nat_tests)
 
 off_hung : (I h : ℕ) → h ≤ I → hung I false h ≡ h + min 1 (I - h)
 unfolding hung
-off_hung I h l = go (ltb h I) refl
-  where
-    go : (t : Bool) → ltb h I ≡ t → mathlib.Core.Bool.cond t (h + 1) h ≡ h + min 1 (I - h)
-    go true e = omega (arith, ltb-true h I e)
-    go false e = omega (arith, ltb-false h I e)
+off_hung I h l = grind (arith, nat_tests)
 
 off_hangover_go : (I d h : ℕ) → h ≤ I → hangover_over I false d h ≡ h + min d (I - h)
 unfolding hangover_over

@@ -20,21 +20,13 @@ use Rattle.sample.proofs.Over.{no_count_lem, no_hangover, count_over_le, hangove
 
 -- ---- places
 
-pub between_in : (from to j : ℕ) → from ≤ j → j < to → between from to j ≡ true
+between_in : (from to j : ℕ) → from ≤ j → j < to → between from to j ≡ true
 unfolding between
 between_in from to j l h = grind (arith, nat_tests)
 
-pub between_past : (from to j : ℕ) → to ≤ j → between from to j ≡ false
+outside : (from to j : ℕ) → ((from ≤ j) × (j < to) → ⊥) → between from to j ≡ false
 unfolding between
-between_past from to j h = grind (arith, nat_tests)
-
-pub in_between : (from to j : ℕ) → between from to j ≡ true → (from ≤ j) × (j < to)
-unfolding between
-in_between from to j e = (grind (arith, nat_tests), grind (arith, nat_tests))
-
-pub apart : (from to j : ℕ) → ((from ≤ j) × (j < to) → ⊥) → between from to j ≡ false
-unfolding between
-apart from to j f = grind (arith, nat_tests)
+outside from to j f = grind (arith, nat_tests)
 
 -- one place more makes no difference to the others
 between_other : (from j i : ℕ) → (i ≡ j → ⊥) → between from (j + 1) i ≡ between from j i
@@ -54,19 +46,21 @@ all_places was k j l = grind (arith, nat_tests)
 -- ---- a turn of the loop
 
 pub none_yet : (at from : ℕ) (on : Bool) (c : Counters) → length c.a ≡ places → length c.h ≡ places → Settled at (λ j. between from from j) (λ _. on) c c
-none_yet at from on c la lh = record { a_length = la; h_length = lh; same = refl; each_one = λ j. go j (between from from j) refl }
-  where
-    go : (j : ℕ) (t : Bool) → between from from j ≡ t → SettledAt c.i at (between from from j) on (activity c.a j) (get_or c.h j 0) (get_or c.since j 0) (activity c.a j) (get_or c.h j 0) (get_or c.since j 0)
-    go j true e = let p = in_between from from j e in absurd (omega (arith, p.0, p.1))
-    go j false e =
-        subst (λ (b : Bool). SettledAt c.i at b on (activity c.a j) (get_or c.h j 0) (get_or c.since j 0) (activity c.a j) (get_or c.h j 0) (get_or c.since j 0)) (sym e)
-        (record { count = refl; hangover = refl; index = refl })
+none_yet at from on c la lh =
+    record {
+      a_length = la;
+      h_length = lh;
+      same = refl;
+      each_one = λ j.
+          subst (λ (b : Bool). SettledAt c.i at b on (activity c.a j) (get_or c.h j 0) (get_or c.since j 0) (activity c.a j) (get_or c.h j 0) (get_or c.since j 0)) (sym (outside from from j (λ b. omega (arith, b.0, b.1))))
+          (record { count = refl; hangover = refl; index = refl });
+    }
 
 module _ (at from : ℕ) (on : Bool) (c d : Counters) (j : ℕ) (l : from ≤ j) (b : j < places) (so_far : Settled at (λ i. between from j i) (λ _. on) c d) where
   -- the place is as it was
   pub untouched : SettledAt c.i at false on (activity c.a j) (get_or c.h j 0) (get_or c.since j 0) (activity d.a j) (get_or d.h j 0) (get_or d.since j 0)
   untouched =
-      subst (λ (t : Bool). SettledAt c.i at t on (activity c.a j) (get_or c.h j 0) (get_or c.since j 0) (activity d.a j) (get_or d.h j 0) (get_or d.since j 0)) (between_past from j j (omega arith)) (so_far.each_one j)
+      subst (λ (t : Bool). SettledAt c.i at t on (activity c.a j) (get_or c.h j 0) (get_or c.since j 0) (activity d.a j) (get_or d.h j 0) (get_or d.since j 0)) (outside from j j (λ b. omega (arith, b.1))) (so_far.each_one j)
 
   module _ (ls : length d.since ≡ places) (v : Samples) (w : ℕ)
       (ev : v.0 ≡ count_over d.i on (at - get_or d.since j 0) (activity d.a j) (get_or d.h j 0)) (ew : w ≡ hangover_over d.i on (at - get_or d.since j 0) (get_or d.h j 0)) where

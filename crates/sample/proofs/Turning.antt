@@ -13,6 +13,7 @@ use mir.Facts.{to_z-of_z}
 use mir.Syntax.{w16}
 use mir.Val.{SFits}
 use Rattle.std.proofs.Common.{to_z, of_z}
+use Rattle.std.proofs.lemmas.Bool.Decides.{nat_tests}
 use Rattle.level.specs.declared.Samples.{Samples}
 use Rattle.level.specs.Types.{activity, most_samples}
 use Rattle.thresholds.specs.declared.Thresholds.{Thresholds}
@@ -36,16 +37,17 @@ use Rattle.sample.proofs.Over.{no_count_lem, no_hangover}
 use Rattle.sample.specs.StateAfter.{Within}
 use Rattle.sample.proofs.Moved.{ended_none, ended_at, up_to_end, room_first, room_less, room_after}
 use Rattle.sample.proofs.Ran.{none_left, step_is}
-use Rattle.sample.proofs.Settling.{apart, uncrossed, all_places, stands_count, stands_hangover, index_le, count_le}
+use Rattle.sample.proofs.Settling.{uncrossed, all_places, stands_count, stands_hangover, index_le, count_le}
 
 -- ---- past the end of the list nothing is settled
 
 outside : (was is k j : ℕ) → was ≤ k → is ≤ k → k ≤ j → (between was is j || between is was j) ≡ false
-outside was is k j l m g =
-    ap₂ ◌||◌ (apart was is j (λ b. absurd (omega (arith, b.1)))) (apart is was j (λ b. absurd (omega (arith, b.1))))
+unfolding between
+outside was is k j l m g = grind (arith, nat_tests)
 
 past_all : (was k j : ℕ) → was ≤ k → k ≤ j → (between 0 was j || between was k j) ≡ false
-past_all was k j l g = ap₂ ◌||◌ (apart 0 was j (λ b. absurd (omega (arith, b.1)))) (apart was k j (λ b. absurd (omega (arith, b.1))))
+unfolding between
+past_all was k j l g = grind (arith, nat_tests)
 
 module _ (I at : ℕ) (one on : Bool) (a h s a' h' s' : ℕ) (S : SettledAt I at one on a h s a' h' s') (e : one ≡ false) where
   alone_count : a' ≡ a
