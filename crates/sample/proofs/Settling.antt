@@ -168,18 +168,15 @@ stands_hangover I at false on is a h s a' h' s' p f = cc (f refl, p.hangover, p.
 -- ---- bounds of a settled counter, where it was at most n more than its index
 
 pub index_le : (I at : ℕ) (one on : Bool) (a h s a' h' s' : ℕ) → SettledAt I at one on a h s a' h' s' → s ≤ at → s' ≤ at
-index_le I at true on a h s a' h' s' p l = omega (arith, p.index)
-index_le I at false on a h s a' h' s' p l = omega (arith, p.index)
+index_le I at one on a h s a' h' s' p l = grind (arith, nat_tests, p.index)
 
 pub count_le : (I at : ℕ) (one on : Bool) (a h s a' h' s' : ℕ) → SettledAt I at one on a h s a' h' s' → (n : ℕ) → s ≤ at → a ≤ n + s → a' ≤ n + s'
-count_le I at true on a h s a' h' s' p n l b = omega (arith, p.index, p.count, count_over_le I on (at - s) a h)
-count_le I at false on a h s a' h' s' p n l b = omega (arith, p.index, p.count)
+count_le I at one on a h s a' h' s' p n l b = grind (arith, nat_tests, p.index, p.count, count_over_le I on (at - s) a h)
 
 -- ---- settled counters can be settled again
 
 room_at : (I at : ℕ) (one on : Bool) (a h s a' h' s' : ℕ) → SettledAt I at one on a h s a' h' s' → a + (at - s) < 2 ^ 63 → a' + (at - s') < 2 ^ 63
-room_at I at true on a h s a' h' s' p b = omega (arith, p.index, p.count, count_over_le I on (at - s) a h)
-room_at I at false on a h s a' h' s' p b = omega (arith, p.index, p.count)
+room_at I at one on a h s a' h' s' p b = grind (arith, nat_tests, p.index, p.count, count_over_le I on (at - s) a h)
 
 pub still_standing : (at : ℕ) (one on : ℕ → Bool) (c d : Counters) → Standing at c → Settled at one on c d → Standing at d
 still_standing at one on c d p q =
