@@ -108,11 +108,8 @@ hung_within c on run j w e = set_le c.h j w c.i c.h_max (subst (λ (x : ℕ). x 
 
 -- the places, and the side on which the envelope was at each of them, may be told in another way
 told_at : (I at : ℕ) (one other on₁ on : Bool) (a h s a' h' s' : ℕ) → one ≡ other → (one ≡ true → on₁ ≡ on) → SettledAt I at one on₁ a h s a' h' s' → SettledAt I at other on a h s a' h' s'
-told_at I at one other on₁ on a h s a' h' s' e f p = subst (λ (t : Bool). SettledAt I at t on a h s a' h' s') e (side one f p)
-  where
-    side : (t : Bool) → (t ≡ true → on₁ ≡ on) → SettledAt I at t on₁ a h s a' h' s' → SettledAt I at t on a h s a' h' s'
-    side true g q = subst (λ (o : Bool). SettledAt I at true o a h s a' h' s') (g refl) q
-    side false g q = record { count = q.count; hangover = q.hangover; index = q.index }
+told_at I at one other on₁ on a h s a' h' s' e f p =
+    record { count = grind (arith, nat_tests, p.count); hangover = grind (arith, nat_tests, p.hangover); index = grind (arith, nat_tests, p.index) }
 
 pub by_places : (at : ℕ) (one other on₁ on : ℕ → Bool) (c d : Counters) → ((j : ℕ) → one j ≡ other j) → ((j : ℕ) → one j ≡ true → on₁ j ≡ on j)
     → Settled at one on₁ c d → Settled at other on c d
@@ -124,21 +121,12 @@ by_places at one other on₁ on c d e f p =
 twice_at : (I at : ℕ) (one two on₁ on₂ on : Bool) (a h s a₁ h₁ s₁ a₂ h₂ s₂ : ℕ)
     → (one ≡ true → two ≡ false) → (one ≡ true → on₁ ≡ on) → (two ≡ true → on₂ ≡ on)
     → SettledAt I at one on₁ a h s a₁ h₁ s₁ → SettledAt I at two on₂ a₁ h₁ s₁ a₂ h₂ s₂ → SettledAt I at (one || two) on a h s a₂ h₂ s₂
-twice_at I at true true on₁ on₂ on a h s a₁ h₁ s₁ a₂ h₂ s₂ f g k p q = absurd (subst T (f refl) tt)
-twice_at I at true false on₁ on₂ on a h s a₁ h₁ s₁ a₂ h₂ s₂ f g k p q =
+twice_at I at one two on₁ on₂ on a h s a₁ h₁ s₁ a₂ h₂ s₂ f g k p q =
     record {
-      count = q.count ∙ p.count ∙ ap (λ (b : Bool). count_over I b (at - s) a h) (g refl);
-      hangover = q.hangover ∙ p.hangover ∙ ap (λ (b : Bool). hangover_over I b (at - s) h) (g refl);
-      index = q.index ∙ p.index;
+      count = grind (arith, nat_tests, p.count, p.hangover, p.index, q.count);
+      hangover = grind (arith, nat_tests, p.hangover, p.index, q.hangover);
+      index = grind (arith, nat_tests, p.index, q.index);
     }
-twice_at I at false true on₁ on₂ on a h s a₁ h₁ s₁ a₂ h₂ s₂ f g k p q =
-    record {
-      count = q.count ∙ cc (k refl, p.count, p.hangover, p.index);
-      hangover = q.hangover ∙ cc (k refl, p.hangover, p.index);
-      index = q.index;
-    }
-twice_at I at false false on₁ on₂ on a h s a₁ h₁ s₁ a₂ h₂ s₂ f g k p q =
-    record { count = q.count ∙ p.count; hangover = q.hangover ∙ p.hangover; index = q.index ∙ p.index }
 
 pub twice : (at : ℕ) (one two on₁ on₂ on : ℕ → Bool) (c d e : Counters)
     → ((j : ℕ) → one j ≡ true → two j ≡ false) → ((j : ℕ) → one j ≡ true → on₁ j ≡ on j) → ((j : ℕ) → two j ≡ true → on₂ j ≡ on j)
@@ -157,13 +145,11 @@ twice at one two on₁ on₂ on c d e f g o p q =
 
 pub stands_count : (I at : ℕ) (one on is : Bool) (a h s a' h' s' : ℕ) → SettledAt I at one on a h s a' h' s' → (one ≡ false → on ≡ is)
     → count_over I is (at - s') a' h' ≡ count_over I on (at - s) a h
-stands_count I at true on is a h s a' h' s' p f = no_count_lem I is (at - s') a' h' (ap (λ (x : ℕ). at - x) p.index ∙ sub_self at) ∙ p.count
-stands_count I at false on is a h s a' h' s' p f = cc (f refl, p.count, p.hangover, p.index)
+stands_count I at one on is a h s a' h' s' p f = grind (arith, nat_tests, p.count, p.hangover, p.index, no_count_lem I is (at - s') a' h')
 
 pub stands_hangover : (I at : ℕ) (one on is : Bool) (a h s a' h' s' : ℕ) → SettledAt I at one on a h s a' h' s' → (one ≡ false → on ≡ is)
     → hangover_over I is (at - s') h' ≡ hangover_over I on (at - s) h
-stands_hangover I at true on is a h s a' h' s' p f = no_hangover I is (at - s') h' (ap (λ (x : ℕ). at - x) p.index ∙ sub_self at) ∙ p.hangover
-stands_hangover I at false on is a h s a' h' s' p f = cc (f refl, p.hangover, p.index)
+stands_hangover I at one on is a h s a' h' s' p f = grind (arith, nat_tests, p.hangover, p.index, no_hangover I is (at - s') h')
 
 -- ---- bounds of a settled counter, where it was at most n more than its index
 
