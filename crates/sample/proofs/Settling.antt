@@ -1,5 +1,5 @@
 -- Settling counters: a place at a time, twice over, and what the counters then stand for.
-use mathlib.Core.Bool.{Bool, true, false, ◌&&◌, ◌||◌, or-true}
+use mathlib.Core.Bool.{Bool, cond, true, false, ◌&&◌, ◌||◌, or-true}
 use mathlib.Core.List.{List, [], ◌∷◌}
 use mathlib.Core.Path.{◌≡◌, refl, sym, ap, ◌∙◌, subst}
 use Prim.Native.Nat.{ℕ, zero, suc, ◌+◌, ◌-◌, ◌^◌, ◌≤◌, ◌<◌}
@@ -45,6 +45,9 @@ all_places was k j l = grind (arith, nat_tests)
 
 -- ---- a turn of the loop
 
+set_at : {A : Type 0} (l : List A) (j i : ℕ) (v e : A) → j < length l → get_or (set l j v) i e ≡ cond (eqb i j) v (get_or l i e)
+set_at l j i v e b = grind (arith, nat_tests, get_or-set_same l j v e, get_or-set_other l j i v e)
+
 pub none_yet : (at from : ℕ) (on : Bool) (c : Counters) → length c.a ≡ places → length c.h ≡ places → Settled at (λ j. between from from j) (λ _. on) c c
 none_yet at from on c la lh =
     record {
@@ -64,36 +67,17 @@ module _ (at from : ℕ) (on : Bool) (c d : Counters) (j : ℕ) (l : from ≤ j)
 
   module _ (ls : length d.since ≡ places) (v : Samples) (w : ℕ)
       (ev : v.0 ≡ count_over d.i on (at - get_or d.since j 0) (activity d.a j) (get_or d.h j 0)) (ew : w ≡ hangover_over d.i on (at - get_or d.since j 0) (get_or d.h j 0)) where
-    here : SettledAt c.i at true on (activity c.a j) (get_or c.h j 0) (get_or c.since j 0) (activity (set d.a j v) j) (get_or (set d.h j w) j 0) (get_or (set d.since j at) j 0)
-    here =
-        let u = untouched in
-        record {
-          count = ap (λ (n : Samples). n.0) (get_or-set_same d.a j v (samples_of 0) (omega (arith, so_far.a_length))) ∙ ev ∙ cc (u.count, u.hangover, u.index, so_far.same);
-          hangover = get_or-set_same d.h j w 0 (omega (arith, so_far.h_length)) ∙ ew ∙ cc (u.hangover, u.index, so_far.same);
-          index = get_or-set_same d.since j at 0 (omega arith);
-        }
-
     pub one_more : (i : ℕ)
         → SettledAt c.i at (between from (j + 1) i) on (activity c.a i) (get_or c.h i 0) (get_or c.since i 0) (activity (set d.a j v) i) (get_or (set d.h j w) i 0) (get_or (set d.since j at) i 0)
-    one_more i = go (eqb i j) refl
-      where
-        go : (t : Bool) → eqb i j ≡ t
-            → SettledAt c.i at (between from (j + 1) i) on (activity c.a i) (get_or c.h i 0) (get_or c.since i 0) (activity (set d.a j v) i) (get_or (set d.h j w) i 0) (get_or (set d.since j at) i 0)
-        go true e =
-            subst (λ (x : ℕ). SettledAt c.i at (between from (j + 1) x) on (activity c.a x) (get_or c.h x 0) (get_or c.since x 0) (activity (set d.a j v) x) (get_or (set d.h j w) x 0) (get_or (set d.since j at) x 0))
-            (sym (eqb-true i j e))
-            (subst (λ (t : Bool). SettledAt c.i at t on (activity c.a j) (get_or c.h j 0) (get_or c.since j 0) (activity (set d.a j v) j) (get_or (set d.h j w) j 0) (get_or (set d.since j at) j 0))
-            (sym (between_in from (j + 1) j l (omega arith))) here)
-        go false e =
-            let f = eqb-false i j e in
-            let p = so_far.each_one i in
-            subst (λ (t : Bool). SettledAt c.i at t on (activity c.a i) (get_or c.h i 0) (get_or c.since i 0) (activity (set d.a j v) i) (get_or (set d.h j w) i 0) (get_or (set d.since j at) i 0))
-            (sym (between_other from j i f))
-            (record {
-              count = ap (λ (n : Samples). n.0) (get_or-set_other d.a j i v (samples_of 0) f) ∙ p.count;
-              hangover = get_or-set_other d.h j i w 0 f ∙ p.hangover;
-              index = get_or-set_other d.since j i at 0 f ∙ p.index;
-            })
+    unfolding between
+    one_more i =
+        let u = untouched in
+        let p = so_far.each_one i in
+        record {
+          count = grind (arith, nat_tests, ap (λ (n : Samples). n.0) (set_at d.a j i v (samples_of 0) (omega (arith, so_far.a_length))), p.count, u.count, u.hangover, u.index, so_far.same, so_far.a_length);
+          hangover = grind (arith, nat_tests, set_at d.h j i w 0, p.hangover, u.hangover, u.index, so_far.same, so_far.h_length);
+          index = grind (arith, nat_tests, set_at d.since j i at 0, p.index);
+        }
 
 -- no hangover is above the limit
 set_le : (l : List ℕ) (j v b : ℕ) → ((i : ℕ) → get_or l i 0 ≤ b) → v ≤ b → (i : ℕ) → get_or (set l j v) i 0 ≤ b
