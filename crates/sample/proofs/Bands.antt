@@ -8,6 +8,7 @@ use native.Mathlib.Nat.{lt_of_not-le, lt_of_le_of_lt, lt_of_lt_of_le, not-suc-le
 use native.Mathlib.Numerals.{add-one}
 use native.Mathlib.Omega.{arith}
 use lib.Dec.{leb, ltb}
+use Rattle.std.proofs.lemmas.Bool.Decides.{nat_tests}
 use Rattle.thresholds.specs.declared.Thresholds.{Thresholds}
 use Rattle.thresholds.specs.Lists.{threshold_of}
 use Rattle.thresholds.specs.Rising.{Rising}
@@ -17,11 +18,11 @@ use Rattle.sample.specs.Inner.Bands.{Clear, top, low_end, high_end}
 -- the band above p thresholds, where there is one more, ends at it
 pub ends_at : (c : ℕ → ℕ) (k p : ℕ) → p < k → high_end c k p ≡ c p
 unfolding high_end
-ends_at c k p l = rw (lt-ltb p k l)
+ends_at c k p l = grind (arith, nat_tests)
 
 pub ends_nowhere : (c : ℕ → ℕ) (k p : ℕ) → k ≤ p → high_end c k p ≡ top
 unfolding high_end
-ends_nowhere c k p l = rw (le-ltb p k l)
+ends_nowhere c k p l = grind (arith, nat_tests)
 
 -- from band to band
 pub up_low : (c : ℕ → ℕ) (k p : ℕ) → p < k → high_end c k p ≡ low_end c (p + 1)
@@ -38,7 +39,7 @@ one_less c zero z = absurd (z refl)
 one_less c (suc p) z = ap c (omega arith)
 
 pub down_high : (c : ℕ → ℕ) (k p : ℕ) → 0 < p → p ≤ k → low_end c p ≡ high_end c k (p - 1)
-down_high c k p l m = sym (one_less c p (λ e. omega (arith, e))) ∙ sym (ends_at c k (p - 1) (omega arith))
+down_high c k p l m = grind (arith, one_less c p, ends_at c k (p - 1))
 
 module _ (c : ℕ → ℕ) (k : ℕ) (rise : (i j : ℕ) → i ≤ j → j < k → c i ≤ c j) where
   under : (p j : ℕ) → j < p → p ≤ k → c j ≤ low_end c p
@@ -47,15 +48,11 @@ module _ (c : ℕ → ℕ) (k : ℕ) (rise : (i j : ℕ) → i ≤ j → j < k �
   under (suc p) j l m = rise j p (omega arith) (omega arith)
 
   side_of : (p j : ℕ) → p ≤ k → j < k → Dec (p ≤ j) → (c j ≤ low_end c p) ⊎ (high_end c k p ≤ c j)
-  side_of p j m l (yes g) = inr (subst (λ (x : ℕ). x ≤ c j) (sym (ends_at c k p (omega arith))) (rise p j g l))
+  side_of p j m l (yes g) = inr (grind (arith, ends_at c k p, rise p j))
   side_of p j m l (no f) = inl (under p j (lt_of_not-le f) m)
 
-  -- the thresholds at or below an envelope's band are the first of them
-  reached : (q p j : ℕ) → p ≤ k → low_end c p ≤ q → q < high_end c k p → j < k → Dec (p ≤ j) → leb (c j) (low_end c p) ≡ ltb j p
-  reached q p j m f t l (yes g) =
-      let e = ends_at c k p (omega arith) in
-      lt-leb (c j) (low_end c p) (lt_of_le_of_lt f (lt_of_lt_of_le (subst (λ (x : ℕ). q < x) e t) (rise p j g l))) ∙ sym (le-ltb j p g)
-  reached q p j m f t l (no g) = le-leb (c j) (low_end c p) (under p j (lt_of_not-le g) m) ∙ sym (lt-ltb j p (lt_of_not-le g))
+  reached : (q p j : ℕ) → p ≤ k → low_end c p ≤ q → q < high_end c k p → j < k → leb (c j) (low_end c p) ≡ ltb j p
+  reached q p j m f t l = grind (arith, nat_tests, ends_at c k p, rise p j, under p j)
 
 module _ (t : Thresholds) (b : Band) (of_list : b.list.now ≡ t) (r : Rising t) where
   begins : b.low ≡ low_end (threshold_of t) b.below
@@ -75,21 +72,12 @@ module _ (t : Thresholds) (b : Band) (of_list : b.list.now ≡ t) (r : Rising t)
   pub sides : (q : ℕ) → b.low ≤ q → q < b.high → (j : ℕ) → j < t.count → leb (threshold_of t j) b.low ≡ ltb j b.below
   sides q f h j l =
       ap (leb (threshold_of t j)) begins
-      ∙ reached (threshold_of t) t.count r.rises q b.below j placed (subst (λ (x : ℕ). x ≤ q) begins f) (subst (λ (x : ℕ). q < x) ends h) l (dec_le b.below j)
+      ∙ reached (threshold_of t) t.count r.rises q b.below j placed (subst (λ (x : ℕ). x ≤ q) begins f) (subst (λ (x : ℕ). q < x) ends h) l
 
 -- no envelope is below 0, so a band that begins above it is not the lowest
 pub some_below : (b : Band) (q : ℕ) → q < b.low → 0 < b.below
-unfolding low_end
-some_below b q l = go b.below b.begins
-  where
-    go : (p : ℕ) → b.low ≡ low_end (threshold_of b.list.now) p → 0 < p
-    go zero e = absurd (omega arith)
-    go (suc p) e = omega arith
+some_below b q l = grind (arith, b.begins, from_none (threshold_of b.list.now) b.below)
 
 -- and none comes to the end of the last band
 pub some_above : (b : Band) (q : ℕ) → b.high ≤ q → q ≤ 2 ^ 40 → b.below < b.list.now.count
-some_above b q l m = go (dec_le b.list.now.count b.below)
-  where
-    go : Dec (b.list.now.count ≤ b.below) → b.below < b.list.now.count
-    go (yes g) = absurd (omega (arith, ends_nowhere (threshold_of b.list.now) b.list.now.count b.below g))
-    go (no g) = lt_of_not-le g
+some_above b q l m = grind (arith, b.ends, ends_nowhere (threshold_of b.list.now) b.list.now.count b.below)

@@ -20,18 +20,9 @@ use Rattle.sample.proofs.Over.{no_count_lem, no_hangover, count_over_le, hangove
 
 -- ---- places
 
-between_in : (from to j : ℕ) → from ≤ j → j < to → between from to j ≡ true
-unfolding between
-between_in from to j l h = grind (arith, nat_tests)
-
 outside : (from to j : ℕ) → ((from ≤ j) × (j < to) → ⊥) → between from to j ≡ false
 unfolding between
 outside from to j f = grind (arith, nat_tests)
-
--- one place more makes no difference to the others
-between_other : (from j i : ℕ) → (i ≡ j → ⊥) → between from (j + 1) i ≡ between from j i
-unfolding between
-between_other from j i f = grind (arith, nat_tests)
 
 -- a threshold that was not crossed, either way, is still on the same side
 pub uncrossed : (was is j : ℕ) → between was is j || between is was j ≡ false → ltb j was ≡ ltb j is

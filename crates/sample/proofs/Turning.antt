@@ -51,10 +51,10 @@ past_all was k j l g = grind (arith, nat_tests)
 
 module _ (I at : ℕ) (one on : Bool) (a h s a' h' s' : ℕ) (S : SettledAt I at one on a h s a' h' s') (e : one ≡ false) where
   alone_count : a' ≡ a
-  alone_count = S.count ∙ ap (λ (b : Bool). cond b (count_over I on (at - s) a h) a) e
+  alone_count = grind (arith, nat_tests, S.count)
 
   alone_hangover : h' ≡ h
-  alone_hangover = S.hangover ∙ ap (λ (b : Bool). cond b (hangover_over I on (at - s) h) h) e
+  alone_hangover = grind (arith, nat_tests, S.hangover)
 
 -- ---- the loop
 
@@ -97,11 +97,7 @@ module _ (T : Thresholds) (I Q : ℕ) (a : List Samples) (h : List ℕ) (la : pl
 
 -- bounded in the list, and zero past it
 within_bound : (f : ℕ → ℕ) (k b : ℕ) → ((j : ℕ) → j < k → f j ≤ b) → ((j : ℕ) → k ≤ j → f j ≡ 0) → (j : ℕ) → f j ≤ b
-within_bound f k b l z j = go (dec_le k j)
-  where
-    go : Dec (k ≤ j) → f j ≤ b
-    go (yes g) = omega (arith, z j g)
-    go (no g) = l j (lt_of_not-le g)
+within_bound f k b l z j = grind (arith, l j, z j)
 
 -- the hangovers of a state are within I
 pub h_within : {by : Counting} {T : Thresholds} {new : ℕ} {s : State} → Within by T new s → (j : ℕ) → get_or s.h j 0 ≤ by.i
