@@ -51,9 +51,6 @@ module _ (c : ℕ → ℕ) (k : ℕ) (rise : (i j : ℕ) → i ≤ j → j < k �
   side_of p j m l (yes g) = inr (grind (arith, ends_at c k p, rise p j))
   side_of p j m l (no f) = inl (under p j (lt_of_not-le f) m)
 
-  reached : (q p j : ℕ) → p ≤ k → low_end c p ≤ q → q < high_end c k p → j < k → leb (c j) (low_end c p) ≡ ltb j p
-  reached q p j m f t l = grind (arith, nat_tests, ends_at c k p, rise p j, under p j)
-
 module _ (t : Thresholds) (b : Band) (of_list : b.list.now ≡ t) (r : Rising t) where
   begins : b.low ≡ low_end (threshold_of t) b.below
   begins = b.begins ∙ ap (λ (x : Thresholds). low_end (threshold_of x) b.below) of_list
@@ -66,13 +63,11 @@ module _ (t : Thresholds) (b : Band) (of_list : b.list.now ≡ t) (r : Rising t)
 
   -- no threshold of its list lies inside a band
   pub clear : Clear (threshold_of t) t.count b.low b.high
-  clear = record { side = λ j l. subst₂ (λ (x y : ℕ). (threshold_of t j ≤ x) ⊎ (y ≤ threshold_of t j)) (sym begins) (sym ends) (side_of (threshold_of t) t.count r.rises b.below j placed l (dec_le b.below j)) }
+  clear = record { side = λ j l. rw (begins, ends) (side_of (threshold_of t) t.count r.rises b.below j placed l (dec_le b.below j)) }
 
   -- the thresholds at or below an envelope's band are the first of them
   pub sides : (q : ℕ) → b.low ≤ q → q < b.high → (j : ℕ) → j < t.count → leb (threshold_of t j) b.low ≡ ltb j b.below
-  sides q f h j l =
-      ap (leb (threshold_of t j)) begins
-      ∙ reached (threshold_of t) t.count r.rises q b.below j placed (subst (λ (x : ℕ). x ≤ q) begins f) (subst (λ (x : ℕ). q < x) ends h) l
+  sides q f h j l = grind (arith, nat_tests, begins, ends, placed, ends_at (threshold_of t) t.count b.below, r.rises b.below j, under (threshold_of t) t.count r.rises b.below j)
 
 -- no envelope is below 0, so a band that begins above it is not the lowest
 pub some_below : (b : Band) (q : ℕ) → q < b.low → 0 < b.below

@@ -98,10 +98,7 @@ hangover_over_le I on (suc d) h l = hung_le I on (hangover_over I on d h) (hango
 -- ---- two envelopes in one band are on the same side of every threshold
 
 pub same_side : (c : ℕ → ℕ) (k low high Q R : ℕ) → Clear c k low high → low ≤ Q → Q < high → low ≤ R → R < high → (j : ℕ) → j < k → leb (c j) Q ≡ leb (c j) R
-same_side c k low high Q R clear lq qh lr rh j b =
-    ⊎_elim (λ l. le-leb (c j) Q (le_trans l lq) ∙ sym (le-leb (c j) R (le_trans l lr)))
-    (λ l. lt-leb (c j) Q (lt_of_lt_of_le qh l) ∙ sym (lt-leb (c j) R (lt_of_lt_of_le rh l)))
-    (clear.side j b)
+same_side c k low high Q R clear lq qh lr rh j b = ⊎_elim (λ l. grind (arith, nat_tests)) (λ l. grind (arith, nat_tests)) (clear.side j b)
 
 -- ---- one sample more, at an envelope q on the same sides as Q
 

@@ -90,10 +90,6 @@ set_out by low high m xs at g =
       same = λ t few b Q since a h p q c before. counted_on by t few low high Q b m since a h xs at g.some g.from g.to p q c before;
     }
 
--- there is room for a sample where there is one
-pub room_for_one : {by : Counting} {low high : ℕ} {m : Moving} {xs : List ℤ} {at : ℕ} {r : Moving} {i : ℕ} → Going by low high m xs at r i → i < length xs → Room 1 r
-room_for_one {xs = xs} {r = r} {i = i} g l = room_less 1 (length xs - i) r (omega arith) g.room
-
 -- the sample at index i, in what moves
 module _ (by : Counting) (low high : ℕ) (m : Moving) (xs : List ℤ) (at : ℕ) (r s : Moving) (i : ℕ) (g : Going by low high m xs at r i)
     (l : i < length xs) (k : by.k ≤ smoothing) (o : SFits w16 by.offset) (f : SFits w16 (get_or xs i (pos 0))) (read : s ≡ moved by r (to_z w16 (of_z w16 (get_or xs i (pos 0))))) where

@@ -99,10 +99,6 @@ module _ (T : Thresholds) (I Q : ℕ) (a : List Samples) (h : List ℕ) (la : pl
 within_bound : (f : ℕ → ℕ) (k b : ℕ) → ((j : ℕ) → j < k → f j ≤ b) → ((j : ℕ) → k ≤ j → f j ≡ 0) → (j : ℕ) → f j ≤ b
 within_bound f k b l z j = grind (arith, l j, z j)
 
--- the hangovers of a state are within I
-pub h_within : {by : Counting} {T : Thresholds} {new : ℕ} {s : State} → Within by T new s → (j : ℕ) → get_or s.h j 0 ≤ by.i
-h_within {by} {T} {new} {s} w = within_bound (λ j. get_or s.h j 0) T.count by.i w.h_max w.h_past
-
 -- the first sample, and room for it and the others
 module _ (by : Counting) (T : Thresholds) (s : State) (xs : List ℤ) (m : Moving) (w : Within by T (length xs) s) (some : 0 < length xs) (x : ℤ) (head : x ≡ get_or xs 0 (pos 0))
     (o : SFits w16 by.offset) (f : SFits w16 x) (b : Moving) (e : b ≡ begun s.sums) (read : m ≡ moved by b (to_z w16 (of_z w16 x))) where
