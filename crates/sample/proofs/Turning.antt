@@ -99,16 +99,23 @@ module _ (T : Thresholds) (I Q : ℕ) (a : List Samples) (h : List ℕ) (la : pl
 within_bound : (f : ℕ → ℕ) (k b : ℕ) → ((j : ℕ) → j < k → f j ≤ b) → ((j : ℕ) → k ≤ j → f j ≡ 0) → (j : ℕ) → f j ≤ b
 within_bound f k b l z j = grind (arith, l j, z j)
 
--- the first sample, and room for it and the others
-module _ (by : Counting) (T : Thresholds) (s : State) (xs : List ℤ) (m : Moving) (w : Within by T (length xs) s) (some : 0 < length xs) (x : ℤ) (head : x ≡ get_or xs 0 (pos 0))
-    (o : SFits w16 by.offset) (f : SFits w16 x) (b : Moving) (e : b ≡ begun s.sums) (read : m ≡ moved by b (to_z w16 (of_z w16 x))) where
-  first : m ≡ moved by (begun s.sums) (get_or xs 0 (pos 0))
-  first = read ∙ ap₂ (moved by) e (to_z-of_z {w = w16} f ∙ head)
+-- what the first sample left
+pub record First (by : Counting) (T : Thresholds) (s : State) (xs : List ℤ) (m : Moving) : Type 0 where
+  pub within : Within by T (length xs) s
+  pub some : 0 < length xs
+  pub offset_fits : SFits w16 by.offset
+  pub first_fits : SFits w16 (get_or xs 0 (pos 0))
+  pub is : m ≡ moved by (begun s.sums) (get_or xs 0 (pos 0))
+
+-- there is room for the other samples, and the loop can start
+module _ (by : Counting) (T : Thresholds) (s : State) (xs : List ℤ) (m : Moving) (p : First by T s xs m) where
+  w : Within by T (length xs) s
+  w = p.within
 
   pub first_room : Room (length xs - 1) m
   first_room =
-      room_after by (begun s.sums) m _ 0 (length xs) some (record { k_max = w.k_max; offset_fits = o }) (subst (SFits w16) head f) first
-      (room_less _ _ (begun s.sums) (omega arith) (room_first s.sums _ w.sums w.room w.few))
+      room_after by (begun s.sums) m _ 0 (length xs) p.some (record { k_max = w.k_max; offset_fits = p.offset_fits }) p.first_fits p.is
+      (room_less _ _ (begun s.sums) (omega (arith, p.some)) (room_first s.sums _ w.sums w.room w.few))
 
   pub started : (c : Counters) (band : Band) → band.list.now ≡ T → band.low ≤ m.q → m.q < band.high → s.sums.sq.low < 2 ^ 64
       → places ≡ length c.a → places ≡ length c.h → c.a ≡ s.a → c.h ≡ s.h → c.since ≡ each places (λ _. 0) → c.i ≡ by.i
@@ -130,8 +137,8 @@ module _ (by : Counting) (T : Thresholds) (s : State) (xs : List ℤ) (m : Movin
         rest =
             ap (λ (z : List ℕ). led_by by T s.sums m band.low 0 z c.a c.h xs) none
             ∙ ap₂ (λ (x : List Samples) (y : List ℕ). led by T (ended s.sums m (min (0 + 1) (length xs))) x y xs) (sym (at_first_counts T by.i band.low c.a c.h la lh past past_h)) (sym (at_first_hangovers T by.i band.low c.a c.h la lh past past_h))
-            ∙ sym (step_is by T s.sums (ended s.sums m (min (0 + 1) (length xs))) c.a c.h xs 0 some
-            (ended_at by s.sums (begun s.sums) m _ 0 (length xs) some first ∙ ap (λ (t : Sums). summed by t (get_or xs 0 (pos 0))) (ended_none s.sums fits)))
+            ∙ sym (step_is by T s.sums (ended s.sums m (min (0 + 1) (length xs))) c.a c.h xs 0 p.some
+            (ended_at by s.sums (begun s.sums) m _ 0 (length xs) p.some p.is ∙ ap (λ (t : Sums). summed by t (get_or xs 0 (pos 0))) (ended_none s.sums fits)))
             ∙ ap (λ (x : State). state_after by T x xs) same;
       }
     where
