@@ -1,29 +1,25 @@
 -- Each condition of a refusal, from the fact that a test of the code leaves.
 use mathlib.Core.Bool.{Bool, true, false, not, ◌&&◌}
 use mathlib.Core.List.{List}
-use mathlib.Core.Path.{◌≡◌, refl, sym, ap, ◌∙◌}
-use Prim.Native.Nat.{ℕ, ◌+◌, ◌-◌, ◌*◌, ◌≤◌, ◌<◌}
+use mathlib.Core.Path.{◌≡◌, refl, sym, ap, ap₂, ◌∙◌}
+use Prim.Native.Nat.{ℕ, ◌+◌, ◌-◌, ◌*◌, ◌≤◌}
 use native.Mathlib.Omega.{arith}
-use borrow.Author.Tests.{eq-eqb, ne_eqb, eqb-true, le-leb, lt-leb, leb-true, ltb-true, ltb-false, not-false}
+use borrow.Author.Tests.{eq-eqb, ne_eqb, eqb-true, le-leb, lt-leb, leb-true, ltb-true, ltb-false, not-true, not-false}
 use lib.Dec.{eqb, ltb, leb}
-use lib.ListN.{length}
+use lib.ListN.{length, get_or, take, drop}
+use Rattle.std.specs.List.{list_all}
 use Rattle.level.specs.Types.{most_samples}
 use Rattle.refusal.proofs.Laws.{both}
+use Rattle.refusal.specs.First.{first_of}
 use Rattle.coding.specs.Numbers.{number_at}
-use Rattle.block.specs.Block.{kind, rate_code, count, check_sum, weighted_sum}
-use Rattle.block.specs.Refusals.{wrong_length, wrong_check, wrong_kind, wrong_rate, wrong_count, used_unused, zeros}
+use Rattle.block.specs.Block.{kind, rate_code, count, word, check_sum, weighted_sum}
+use Rattle.block.specs.Refusals.{wrong_length, wrong_check, wrong_kind, wrong_rate, wrong_count, used_unused, block_rules}
 use Rattle.block.specs.Written.{unwritable}
+use Rattle.block.proofs.Numbers.{kind_is as kind_read, zeros_are}
 
 not_not : (b : Bool) → b ≡ not (not b)
 not_not true = refl
 not_not false = refl
-
--- what a condition is, from the code's test of its opposite
-pub applies : (t b : Bool) → t ≡ not b → t ≡ false → b ≡ true
-applies t b e h = not_not b ∙ ap not (sym e ∙ h)
-
-pub passes : (t b : Bool) → t ≡ not b → t ≡ true → b ≡ false
-passes t b e h = not_not b ∙ ap not (sym e ∙ h)
 
 module _ (b : List ℕ) where
   pub length_off : (length b ≡ 512 → ⊥) → wrong_length b ≡ true
@@ -34,14 +30,12 @@ module _ (b : List ℕ) where
   unfolding wrong_length
   length_right e = ap not (eq-eqb (length b) 512 e)
 
-  pub first_off : (number_at b 508 2 ≡ check_sum b → ⊥) → false ≡ not (wrong_check b)
-  unfolding wrong_check
-  first_off f = sym (simp (ne_eqb (number_at b 508 2) (check_sum b) f))
-
-  pub first_right : number_at b 508 2 ≡ check_sum b → eqb (number_at b 510 2) (weighted_sum b) ≡ not (wrong_check b)
-  unfolding wrong_check
-  first_right e =
-      sym (ap (λ (x : Bool). x && eqb (number_at b 510 2) (weighted_sum b)) (eq-eqb (number_at b 508 2) (check_sum b) e))
+  -- the code compares two pairs of words
+  pub check_is : (sum weighted : ℕ) → sum ≡ check_sum b → weighted ≡ weighted_sum b
+      → eqb (word b 254) sum && eqb (word b 255) weighted ≡ not (wrong_check b)
+  unfolding wrong_check word
+  check_is sum weighted e f =
+      ap₂ (λ (x y : ℕ). eqb (number_at b 508 2) x && eqb (number_at b 510 2) y) e f
       ∙ not_not (eqb (number_at b 508 2) (check_sum b) && eqb (number_at b 510 2) (weighted_sum b))
 
   pub check_right : number_at b 508 2 ≡ check_sum b → number_at b 510 2 ≡ weighted_sum b → wrong_check b ≡ false
@@ -72,31 +66,73 @@ module _ (b : List ℕ) where
   unfolding wrong_rate
   rate_right code e = ap not (eq-eqb (rate_code b) code e)
 
-  pub count_low : count b < 1 → wrong_count b ≡ true
-  unfolding wrong_count
-  count_low h = simp (lt-leb 1 (count b) h)
-
-  pub count_high : 1 ≤ count b → 248 < count b → wrong_count b ≡ true
-  unfolding wrong_count
-  count_high l h = simp (le-leb 1 (count b) l, lt-leb (count b) 248 h)
-
   pub count_right : 1 ≤ count b → count b ≤ 248 → wrong_count b ≡ false
   unfolding wrong_count
   count_right l h = simp (le-leb 1 (count b) l, le-leb (count b) 248 h)
 
-  pub unused_is : (at : ℕ) → at ≡ 12 + 2 * count b → zeros b at (508 - at) ≡ not (used_unused b)
-  unfolding used_unused
-  unused_is at e = ap (λ (x : ℕ). zeros b x (508 - x)) e ∙ not_not (zeros b (12 + 2 * count b) (508 - (12 + 2 * count b)))
+-- ---- what a block is told, from what the code finds of it
+
+-- the bytes behind so many samples, as the code tests them
+abbrev unused_zero : List ℕ → ℕ → Bool
+unused_zero b n = list_all (λ x. eqb x 0) (take (508 - (12 + 2 * n)) (drop (12 + 2 * n) b))
+
+module _ (b : List ℕ) (code : ℕ) where
+  pub told_4 : (length b ≡ 512 → ⊥) → 4 ≡ first_of (block_rules b code)
+  unfolding block_rules first_of
+  told_4 l = sym (simp (length_off b l))
+
+  module _ (l : length b ≡ 512) where
+    long : wrong_length b ≡ false
+    long = length_right b l
+
+    pub told_5 : not (wrong_check b) ≡ false → 5 ≡ first_of (block_rules b code)
+    unfolding block_rules first_of
+    told_5 r = sym (simp (long, not-false _ r))
+
+    module _ (r : not (wrong_check b) ≡ true) where
+      right : wrong_check b ≡ false
+      right = not-true _ r
+
+      pub told_6 : (get_or b 0 0 ≡ 1 → ⊥) → 6 ≡ first_of (block_rules b code)
+      unfolding block_rules first_of
+      told_6 k = sym (simp (long, right, kind_off b (λ e. k (kind_read b ∙ e))))
+
+      module _ (k : get_or b 0 0 ≡ 1) where
+        known : wrong_kind b ≡ false
+        known = kind_right b (sym (kind_read b) ∙ k)
+
+        pub told_7 : (rate_code b ≡ code → ⊥) → 7 ≡ first_of (block_rules b code)
+        unfolding block_rules first_of
+        told_7 c = sym (simp (long, right, known, rate_off b code c))
+
+        module _ (c : rate_code b ≡ code) where
+          pub told_8 : leb 1 (word b 1) && leb (word b 1) 248 ≡ false → 8 ≡ first_of (block_rules b code)
+          unfolding block_rules first_of word wrong_count count
+          told_8 n = sym (simp (long, right, known, rate_right b code c, n))
+
+          module _ (n : leb 1 (word b 1) && leb (word b 1) 248 ≡ true) where
+            possible : wrong_count b ≡ false
+            unfolding word wrong_count count
+            possible = ap not n
+
+            end : 12 + 2 * word b 1 ≤ 508
+            end = omega (arith, leb-true (word b 1) 248 (both (leb 1 (word b 1)) (leb (word b 1) 248) n).1)
+
+            zero : unused_zero b (word b 1) ≡ not (used_unused b)
+            unfolding word used_unused count
+            zero = zeros_are b (12 + 2 * word b 1) (508 - (12 + 2 * word b 1)) (omega (arith, end)) ∙ not_not _
+
+            pub told_9 : unused_zero b (word b 1) ≡ false → 9 ≡ first_of (block_rules b code)
+            unfolding block_rules first_of
+            told_9 z = sym (simp (long, right, known, rate_right b code c, possible, not-false _ (sym zero ∙ z)))
+
+            pub told_0 : unused_zero b (word b 1) ≡ true → 0 ≡ first_of (block_rules b code)
+            unfolding block_rules first_of
+            told_0 z = sym (simp (long, right, known, rate_right b code c, possible, not-true _ (sym zero ∙ z)))
+
+pub ruleset told = (told_5, told_6, told_7, told_8, told_9, told_0)
 
 -- ---- 18
-
-pub none_writable : (n k : ℕ) → k < 1 → unwritable n k ≡ true
-unfolding unwritable
-none_writable n k h = simp (lt-leb 1 k h)
-
-pub many_writable : (n k : ℕ) → 1 ≤ k → 248 < k → unwritable n k ≡ true
-unfolding unwritable
-many_writable n k l h = simp (le-leb 1 k l, lt-leb k 248 h)
 
 pub writable_is : (n k : ℕ) → 1 ≤ k → k ≤ 248 → n + k ≤ most_samples → unwritable n k ≡ false
 unfolding unwritable
@@ -109,11 +145,20 @@ writable_facts n k h =
     let u = both _ _ t.0 in
     (leb-true _ _ u.0, leb-true _ _ u.1, leb-true _ _ t.1)
 
--- the last test, of the number before against what 2^48 leaves room for
-pub end_writable : (n k : ℕ) → 1 ≤ k → k ≤ 248 → ltb (most_samples - k) n ≡ unwritable n k
+pub few_writable : (n k : ℕ) → unwritable n k ≡ false → k ≤ 248
+few_writable n k h = (writable_facts n k h).1
+
+-- as the code finds it: the number of samples first, and then the number before against what 2^48 leaves room for
+pub count_unwritable : (n k : ℕ) → leb 1 k && leb k 248 ≡ false → true ≡ unwritable n k
 unfolding unwritable
-end_writable n k l h = go (ltb (most_samples - k) n) refl
+count_unwritable n k h = sym (simp h)
+
+pub end_unwritable : (n k : ℕ) → leb 1 k && leb k 248 ≡ true → k ≤ 248 → ltb (most_samples - k) n ≡ unwritable n k
+unfolding unwritable
+end_unwritable n k h l = go (ltb (most_samples - k) n) refl
   where
     go : (t : Bool) → ltb (most_samples - k) n ≡ t → t ≡ not (leb 1 k && leb k 248 && leb (n + k) most_samples)
-    go true e = sym (simp (le-leb 1 k l, le-leb k 248 h, lt-leb (n + k) most_samples (omega (arith, ltb-true (most_samples - k) n e))))
-    go false e = sym (simp (le-leb 1 k l, le-leb k 248 h, le-leb (n + k) most_samples (omega (arith, ltb-false (most_samples - k) n e))))
+    go true e = sym (simp (h, lt-leb (n + k) most_samples (omega (arith, ltb-true (most_samples - k) n e))))
+    go false e = sym (simp (h, le-leb (n + k) most_samples (omega (arith, ltb-false (most_samples - k) n e))))
+
+pub ruleset writing = (count_unwritable, end_unwritable)

@@ -3,21 +3,25 @@ use mathlib.Core.Bool.{Bool, true, false, not, and-false}
 use mathlib.Core.List.{List, [], ◌∷◌}
 use mathlib.Core.Logic.{◌↔◌}
 use mathlib.Core.Path.{◌≡◌, refl, sym, ap, ap₂, ◌∙◌}
-use Prim.Native.Nat.{ℕ, zero, suc, ◌+◌, ◌*◌, ◌≤◌, ◌<◌}
+use Prim.Native.Nat.{ℕ, zero, suc, ◌+◌, ◌-◌, ◌*◌, ◌≤◌, ◌<◌}
 use native.Mathlib.Omega.{arith}
 use native.Mathlib.Nat.{add_assoc}
 use borrow.Author.Tests.{eqb-true, leb-true, not-true, not-false}
 use lib.ListN.{length, take, drop, length-drop}
 use lib.Seq.{get_or-take, get_or-drop, length-take-le}
+use Rattle.std.proofs.Common.{Result, Ok, Err}
+use Rattle.std.specs.Result.{is_ok}
+use Rattle.refusal.specs.declared.Refusal.{Refusal}
+use Rattle.refusal.specs.Number.{number_of, number_given}
 use Rattle.refusal.specs.First.{first_of, NoneApplies, numbered, rising, Given, Lowest}
-use Rattle.refusal.proofs.Laws.{past, given, given_lowest, both}
+use Rattle.refusal.proofs.Laws.{here, past, given, given_lowest, both, positive}
 use Rattle.rate.specs.Rates.{is_named}
 use Rattle.coding.specs.Numbers.{number_at}
 use Rattle.coding.specs.Samples.{signed, samples_at}
 use Rattle.coding.proofs.Laws.{samples_at_length}
 use Rattle.block.specs.Block.{rate_code, count, samples_in}
 use Rattle.block.specs.Refusals.{wrong_length, wrong_check, wrong_kind, wrong_rate, wrong_count, used_unused, block_rules, sound, samples_part, host_rules, host_check}
-use Rattle.block.proofs.Conditions.{length_off, rate_right}
+use Rattle.block.proofs.Conditions.{rate_right}
 
 -- ---- soundness
 
@@ -86,20 +90,24 @@ accepted_sound b code n h =
       e,
     )
 
-pub unsound_length : (b : List ℕ) → (length b ≡ 512 → ⊥) → sound b ≡ false
-unfolding sound
-unsound_length b f = simp (length_off b f)
-
-pub unsound_rate : (b : List ℕ) → is_named (rate_code b) ≡ false → sound b ≡ false
-unfolding sound
-unsound_rate b e = simp (e, and-false)
-
-pub refused_unsound : (b : List ℕ) (code n : ℕ) → rate_code b ≡ code → 0 < n → n ≡ first_of (block_rules b code) → sound b ≡ false
+refused_unsound : (b : List ℕ) (code n : ℕ) → rate_code b ≡ code → 0 < n → n ≡ first_of (block_rules b code) → sound b ≡ false
 refused_unsound b code n e p h = go (sound b) refl
   where
     go : (t : Bool) → sound b ≡ t → sound b ≡ false
     go true q = absurd (omega (arith, sound_accepted b code q e))
     go false q = q
+
+-- so a block is sound where its own code is named and the answer at that code accepts it
+pub unsound_named : (b : List ℕ) → is_named (rate_code b) ≡ false → false ≡ sound b
+unfolding sound
+unsound_named b e = sym (simp (e, and-false))
+
+pub sound_answer : (b : List ℕ) (answer : Result Unit Refusal) → is_named (rate_code b) ≡ true → number_given answer ≡ first_of (block_rules b (rate_code b))
+    → is_ok answer ≡ sound b
+sound_answer b (Ok u) n e = sym (accepted_sound b (rate_code b) n e).0
+sound_answer b (Err why) n e = sym (refused_unsound b (rate_code b) (number_of why) refl (positive why) e)
+
+pub ruleset answered = (unsound_named, sound_answer)
 
 -- ---- the part
 
@@ -124,6 +132,19 @@ sound_length b h = length_is b (sound_is b h).length_ok
 
 pub sound_count : (b : List ℕ) → sound b ≡ true → (1 ≤ count b) × (count b ≤ 248)
 sound_count b h = count_is b (sound_is b h).count_ok
+
+-- as the code reads the count and cuts the part out
+pub part_end : (b : List ℕ) → sound b ≡ true → 12 + 2 * number_at b 2 2 ≤ length b
+unfolding count
+part_end b h = omega (arith, sound_length b h, (sound_count b h).1)
+
+pub part_cut : (b : List ℕ) → sound b ≡ true → take (12 + 2 * number_at b 2 2 - 12) (drop 12 b) ≡ samples_part b
+unfolding count
+part_cut b h =
+    let e : 12 + 2 * number_at b 2 2 - 12 ≡ 2 * number_at b 2 2 = omega arith in
+    ap (λ (n : ℕ). take n (drop 12 b)) e ∙ part_some b h
+
+pub ruleset parted = (part_none, part_end, part_cut)
 
 -- two bytes for each sample
 pub part_length : (b : List ℕ) → sound b ≡ true → length (samples_part b) ≡ 2 * count b
@@ -173,6 +194,17 @@ samples_length b = samples_at_length b 12 (count b)
 host_rises : (b : List ℕ) (code : ℕ) → rising 0 (host_rules b code) ≡ true
 unfolding host_rules block_rules rising
 host_rises b code = refl
+
+-- the code's own test comes before the block's
+pub host_unnamed : (b : List ℕ) (code : ℕ) → is_named code ≡ false → 1 ≡ host_check b code
+unfolding host_check host_rules
+host_unnamed b code e = here _ _ _ (ap not e)
+
+pub host_named : (b : List ℕ) (code : ℕ) → is_named code ≡ true → first_of (block_rules b code) ≡ host_check b code
+unfolding host_check host_rules
+host_named b code e = past _ _ _ (ap not e) refl
+
+pub ruleset hosted = (host_unnamed, host_named)
 
 -- the host is told the number of the first rule that applies, which is the lowest
 pub host_given : (b : List ℕ) (code : ℕ) → Given (host_rules b code) (host_check b code) × Lowest (host_rules b code) (host_check b code)

@@ -1,6 +1,6 @@
 -- What the crates above know of making a block: what was written is read again, by the fields, the check and the host; and a sound block, written
 -- afresh, has its own bytes.
-use mathlib.Core.Bool.{true, cond, not}
+use mathlib.Core.Bool.{true, false, cond, not}
 use mathlib.Core.List.{List, [], ◌++◌, append_assoc, append-nil}
 use mathlib.Core.Path.{◌≡◌, refl, sym, ap, ap₂, ◌∙◌, subst}
 use Prim.Native.Nat.{ℕ, zero, suc, ◌+◌, ◌-◌, ◌*◌, ◌%◌, ◌^◌, ◌≤◌, ◌<◌}
@@ -14,7 +14,7 @@ use Rattle.level.specs.Types.{most_samples}
 use Rattle.rate.specs.Rates.{is_named}
 use Rattle.rate.proofs.Laws.{named_small}
 use Rattle.refusal.specs.First.{first_of, NoneApplies, rising, Given, Lowest}
-use Rattle.refusal.proofs.Laws.{past, none, given_lowest}
+use Rattle.refusal.proofs.Laws.{here, past, none, given_lowest}
 use Rattle.coding.specs.Numbers.{number_at, bytes_of}
 use Rattle.coding.specs.Samples.{samples_at, bytes_of_samples}
 use Rattle.coding.specs.Typed.{AllSamples, AllBytes}
@@ -22,8 +22,8 @@ use Rattle.coding.proofs.Bytes.{rest_is, bytes_length, read_number, again_number
 use Rattle.coding.proofs.Parts.{behind, sets_all}
 use Rattle.block.specs.Block.{kind, rate_code, count, before, samples_in, word, sum_below, check_sum, weighted_sum}
 use Rattle.block.specs.Refusals.{used_unused, zeros, sound, host_check}
-use Rattle.block.specs.Written.{contents_of, block_of, unwritable, write_rules, write_call}
-use Rattle.block.proofs.Conditions.{length_right, check_right, checks_are, kind_right, kind_is, count_right, writable_is, writable_facts}
+use Rattle.block.specs.Written.{contents_of, block_of, unwritable, told_with, write_rules, write_call}
+use Rattle.block.proofs.Conditions.{length_off, length_right, check_right, checks_are, kind_right, kind_is, count_right, writable_is, writable_facts, few_writable}
 use Rattle.block.proofs.Numbers.{read_zeros, again_zeros}
 use Rattle.block.proofs.Laws.{sound_is, is_sound_lem, sound_length, sound_count, samples_length, host_told}
 
@@ -41,18 +41,37 @@ pub write_given : (code n : ℕ) (xs : List ℤ) (buffer : List ℕ)
 unfolding write_call write_rules rising
 write_given code n xs buffer = given_lowest (write_rules code n xs buffer) refl
 
--- as the code meets it: the first rule that applies, or none
-pub by_rule : (k code n : ℕ) (xs : List ℤ) (buffer : List ℕ) → 0 < k → k ≡ first_of (write_rules code n xs buffer)
-    → record { number = k; buffer = buffer } ≡ write_call code n xs buffer
+-- what the code finds, one after another: a rule that applies, with the buffer as it was, or none
+by_rule : (k code n : ℕ) (xs : List ℤ) (buffer : List ℕ) → 0 < k → k ≡ first_of (write_rules code n xs buffer)
+    → told_with k buffer ≡ write_call code n xs buffer
 unfolding write_call
 by_rule k code n xs buffer h e =
-    ap (λ (b : List ℕ). record { number = k; buffer = b }) (sym (simp (ne_eqb k 0 (λ z. omega arith))))
-    ∙ ap (λ (r : ℕ). record { number = r; buffer = cond (eqb r 0) (block_of code n xs) buffer }) e
+    ap (told_with k) (sym (simp (ne_eqb k 0 (λ z. omega arith))))
+    ∙ ap (λ (r : ℕ). told_with r (cond (eqb r 0) (block_of code n xs) buffer)) e
 
-pub by_none : (code n : ℕ) (xs : List ℤ) (buffer b : List ℕ) → b ≡ block_of code n xs → 0 ≡ first_of (write_rules code n xs buffer)
-    → record { number = 0; buffer = b } ≡ write_call code n xs buffer
-unfolding write_call
-by_none code n xs buffer b f e = ap₂ (λ (r : ℕ) (block : List ℕ). record { number = r; buffer = cond (eqb r 0) block buffer }) e f
+module _ (code n : ℕ) (xs : List ℤ) (buffer : List ℕ) where
+  pub told_unnamed : is_named code ≡ false → told_with 1 buffer ≡ write_call code n xs buffer
+  unfolding write_rules
+  told_unnamed u = by_rule 1 code n xs buffer (omega arith) (here _ _ _ (ap not u))
+
+  module _ (named : is_named code ≡ true) where
+    pub told_length : (length buffer ≡ 512 → ⊥) → told_with 4 buffer ≡ write_call code n xs buffer
+    unfolding write_rules
+    told_length l = by_rule 4 code n xs buffer (omega arith) (past _ _ _ (ap not named) (here _ _ _ (length_off buffer l)))
+
+    module _ (l : length buffer ≡ 512) (b : List ℕ) where
+      pub told_unwritable : unwritable n (length xs) ≡ true → b ≡ buffer → told_with 18 b ≡ write_call code n xs buffer
+      unfolding write_rules
+      told_unwritable u e =
+          ap (told_with 18) e
+          ∙ by_rule 18 code n xs buffer (omega arith) (past _ _ _ (ap not named) (past _ _ _ (length_right buffer l) (here _ _ _ u)))
+
+      pub told_written : unwritable n (length xs) ≡ false → b ≡ block_of code n xs → told_with 0 b ≡ write_call code n xs buffer
+      unfolding write_call write_rules
+      told_written u e =
+          ap₂ (λ (r : ℕ) (block : List ℕ). told_with r (cond (eqb r 0) block buffer)) (past _ _ _ (ap not named) (past _ _ _ (length_right buffer l) (past _ _ _ u none))) e
+
+pub ruleset told = (told_unnamed, told_length, told_unwritable, told_written, few_writable)
 
 -- accepted
 pub writable : (code n : ℕ) (xs : List ℤ) (buffer : List ℕ) → (write_call code n xs buffer).number ≡ 0 → Writable code n xs
@@ -317,10 +336,7 @@ module _ (b : List ℕ) (a : AllBytes b) (s : sound b ≡ true) where
   -- the call, into any buffer of 512 bytes
   pub afresh : (buffer : List ℕ) → length buffer ≡ 512 → before b + count b ≤ most_samples
       → write_call (rate_code b) (before b) (samples_in b) buffer ≡ record { number = 0; buffer = b }
-  unfolding write_rules
   afresh buffer l e =
       let c = sound_count b s in
-      sym (by_none (rate_code b) (before b) (samples_in b) buffer b (sym own_bytes)
-      (past _ _ _ (ap not (sound_is b s).named)
-      (past _ _ _ (length_right buffer l)
-      (past _ _ _ (ap (unwritable (before b)) (samples_length b) ∙ writable_is (before b) (count b) c.0 c.1 e) none))))
+      let w = ap (unwritable (before b)) (samples_length b) ∙ writable_is (before b) (count b) c.0 c.1 e in
+      sym (told_written (rate_code b) (before b) (samples_in b) buffer (sound_is b s).named l b w (sym own_bytes))

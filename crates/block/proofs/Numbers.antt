@@ -1,25 +1,30 @@
 -- The fields of a block by name, runs of zeros, and the sums over its words.
-use mathlib.Core.Bool.{true, false, ◌&&◌}
+use mathlib.Core.Bool.{Bool, true, ◌&&◌}
 use mathlib.Core.List.{List, ◌∷◌, [], ◌++◌}
 use mathlib.Core.Path.{◌≡◌, refl, sym, ap, ap₂, ◌∙◌}
-use Prim.Native.Nat.{ℕ, zero, suc, ◌+◌, ◌-◌, ◌*◌, ◌^◌, ◌≤◌, ◌<◌}
+use Prim.Native.Nat.{ℕ, zero, suc, ◌+◌, ◌-◌, ◌*◌, ◌%◌, ◌^◌, ◌≤◌, ◌<◌}
 use native.Mathlib.Omega.{arith}
 use native.Mathlib.Nat.{mul-le-mul, add-zero}
 use native.Mathlib.Numerals.{add-one}
-use borrow.Author.Tests.{eq-eqb, ne_eqb, eqb-true}
+use borrow.Author.Tests.{eq-eqb, eqb-true}
 use lib.Dec.{eqb}
-use lib.ListN.{length, get_or, drop, replicate}
+use lib.ListN.{length, get_or, take, drop, replicate}
 use lib.Seq.{drop-cons}
+use Rattle.std.specs.List.{list_all}
 use Rattle.coding.specs.Numbers.{number_at}
 use Rattle.coding.proofs.Bytes.{first_is, rest_is}
 use Rattle.coding.proofs.Numbers.{one_byte}
 use Rattle.refusal.proofs.Laws.{both}
-use Rattle.block.specs.Block.{kind, rate_code, count, before, sum_below}
+use Rattle.block.specs.Block.{kind, rate_code, count, before, word, sum_below, check_sum, weighted_sum}
 use Rattle.block.specs.Refusals.{zeros}
 
 pub before_is : (b : List ℕ) → number_at b 4 8 ≡ before b
 unfolding before
 before_is b = refl
+
+pub word_is : (b : List ℕ) (i : ℕ) → get_or b (2 * i) 0 + 256 * get_or b (2 * i + 1) 0 ≡ word b i
+unfolding word number_at
+word_is b i = omega arith
 
 pub kind_is : (b : List ℕ) → get_or b 0 0 ≡ kind b
 unfolding kind
@@ -35,19 +40,12 @@ count_is b = refl
 
 -- ---- a run of zeros
 
-zeros_suc : (b : List ℕ) (at k : ℕ) → 0 < k → zeros b at k ≡ eqb (get_or b at 0) 0 && zeros b (at + 1) (k - 1)
+pub zeros_are : (b : List ℕ) (at k : ℕ) → at + k ≤ length b → list_all (λ x. eqb x 0) (take k (drop at b)) ≡ zeros b at k
 unfolding zeros
-zeros_suc b at k h = let whole : k ≡ suc (k - 1) = omega arith in ap (zeros b at) whole
-
-pub zeros_end : (b : List ℕ) (at k : ℕ) → k ≡ 0 → true ≡ zeros b at k
-unfolding zeros
-zeros_end b at k e = sym (ap (zeros b at) e)
-
-pub zeros_stop : (b : List ℕ) (at k : ℕ) → 0 < k → (get_or b at 0 ≡ 0 → ⊥) → zeros b at k ≡ false
-zeros_stop b at k h f = zeros_suc b at k h ∙ simp (ne_eqb (get_or b at 0) 0 f)
-
-pub zeros_on : (b : List ℕ) (at k : ℕ) → 0 < k → get_or b at 0 ≡ 0 → zeros b (at + 1) (k - 1) ≡ zeros b at k
-zeros_on b at k h e = sym (zeros_suc b at k h ∙ simp (eq-eqb (get_or b at 0) 0 e))
+zeros_are b at zero h = refl
+zeros_are b at (suc k) h =
+    ap (λ (l : List ℕ). list_all (λ x. eqb x 0) (take (suc k) l)) (drop-cons b at 0 (omega arith))
+    ∙ ap (λ (z : Bool). eqb (get_or b at 0) 0 && z) (ap (λ (n : ℕ). list_all (λ x. eqb x 0) (take k (drop n b))) (sym (add-one at)) ∙ zeros_are b (at + 1) k (omega arith))
 
 -- zeros put down are found, and those found are put down again
 pub read_zeros : (b : List ℕ) (k at : ℕ) (r : List ℕ) → drop at b ≡ replicate k 0 ++ r → zeros b at k ≡ true
@@ -81,3 +79,14 @@ weight_small i w h =
     let p : 254 - i ≤ 254 = omega arith in
     let q : w ≤ 65535 = omega arith in
     mul-le-mul p q
+
+-- over all words
+pub sum_all : (b : List ℕ) (k sum : ℕ) → sum ≡ sum_below (λ i. word b i) k → k ≡ 254 → sum % 65535 ≡ check_sum b
+unfolding check_sum
+sum_all b k sum e f = ap (λ (x : ℕ). x % 65535) (e ∙ ap (sum_below _) f)
+
+pub weighted_all : (b : List ℕ) (k sum : ℕ) → sum ≡ sum_below (λ i. (254 - i) * word b i) k → k ≡ 254 → sum % 65535 ≡ weighted_sum b
+unfolding weighted_sum
+weighted_all b k sum e f = ap (λ (x : ℕ). x % 65535) (e ∙ ap (sum_below _) f)
+
+pub ruleset sums = (sum_zero, sum_more, weight_small, sum_all, weighted_all)

@@ -1,10 +1,10 @@
 -- Making a block: METHOD.md, "Making a block". Its bytes are a list, in the order of the layout.
-use Rattle.std.specs.Prelude.{Bool, cond, not, ◌&&◌, List, [], ◌∷◌, ◌++◌, ℕ, ◌+◌, ◌-◌, ◌*◌, eqb, leb, ℤ, length, replicate}
+use Rattle.std.specs.Prelude.{Bool, cond, not, ◌&&◌, List, [], ◌∷◌, ◌++◌, ℕ, ◌+◌, ◌-◌, ◌*◌, eqb, leb, ℤ, length, replicate, Result}
 use Rattle.coding.specs.Numbers.{bytes_of}
 use Rattle.coding.specs.Samples.{bytes_of_samples}
 use Rattle.level.specs.Types.{most_samples}
 use Rattle.rate.specs.Rates.{is_named}
-use Rattle.refusal.specs.declared.Answer.{Answer}
+use Rattle.refusal.specs.declared.Refusal.{Refusal}
 use Rattle.refusal.specs.First.{Rule, first_of}
 use Rattle.refusal.specs.Number.{number_given}
 use Rattle.block.specs.Block.{check_sum, weighted_sum}
@@ -42,7 +42,7 @@ abbrev pub told_with : (number : ℕ) → (buffer : List ℕ) → Written
 told_with r buffer = record { number = r; buffer = buffer }
 
 -- what an answer says, with the buffer
-abbrev pub written_by : Answer → (buffer : List ℕ) → Written
+abbrev pub written_by : Result Unit Refusal → (buffer : List ℕ) → Written
 written_by r buffer = told_with (number_given r) buffer
 
 -- accepted, the buffer holds the block; refused, what it held

@@ -1,45 +1,27 @@
-// What the check of a block of 512 bytes reads, with no test of its own for the end.
-ghost use Rattle.std.specs.Prelude.{◌≡◌, ◌+◌, ◌-◌, ◌≤◌, ◌<◌, ◌^◌, length};
-ghost use Rattle.coding.specs.Numbers.{number_at};
-ghost use Rattle.block.specs.Block.{kind as kindIn};
-ghost use Rattle.block.specs.Refusals.{zeros};
+// What the check of a block reads, with no test for the end, and how many samples one may hold.
+ghost use Rattle.std.specs.Prelude.{◌&&◌, ◌≡◌, ◌==◌, ◌<◌, leb};
+ghost use Rattle.std.specs.List.{list_all};
+ghost use Rattle.block.specs.Block.{word as wordOf};
 
-#[tactic(auto, using(crate::proofs::Numbers::kind_is))]
-pub fn kind(block: &[u8]) -> u8
-    requires { length block.now ≡ 512 }
-    ensures { result ≡ kindIn block.now }
+// One of a block's words, which have two bytes each.
+#[tactic(auto, using(crate::proofs::Numbers::word_is))]
+pub fn word(block: &[u8; 512], i: usize) -> u16
+    requires { i < 256 }
+    ensures { result ≡ wordOf block.now i }
 {
-    block[0]
+    u16::from_le_bytes([block[2 * i], block[2 * i + 1]])
 }
 
-// The two-byte number at a place.
-#[tactic(auto, using(coding::proofs::Numbers::two_bytes))]
-pub fn word(block: &[u8], at: usize) -> usize
-    requires { at + 1 < length block.now }
-    ensures { (result ≡ number_at block.now at 2) × (result < 2 ^ 16) }
+// Whether a block may hold so many samples.
+pub fn may_hold(count: usize) -> bool
+    ensures { result ≡ (leb 1 count && leb count 248) }
 {
-    let low = wide(block[at]);
-    let high = wide(block[at + 1]);
-    low + 256 * high
+    (1..=248).contains(&count)
 }
 
-// Whether all bytes from a place up to 507 are zero.
-pub fn zeros_from(block: &[u8], from: usize) -> bool
-    requires { (length block.now ≡ 512) × (from ≤ 508) }
-    ensures { result ≡ zeros block.now from (508 - from) }
+// Whether all of some bytes are zero.
+pub fn are_zero(bytes: &[u8]) -> bool
+    ensures { result ≡ list_all (λ byte. byte == 0) bytes.now }
 {
-    let mut at = from;
-    while at < 508 {
-        if block[at] != 0 {
-            return false;
-        }
-        at += 1;
-    }
-    true
-}
-
-fn wide(byte: u8) -> usize
-    ensures { (result ≡ byte) × (result < 256) }
-{
-    byte as usize
+    bytes.iter().all(|&byte| byte == 0)
 }

@@ -1,7 +1,7 @@
 -- Two's complement of a word, and the samples of a part one after another.
 use mathlib.Core.Bool.{cond}
 use mathlib.Core.List.{List, [], ◌∷◌, ◌++◌}
-use mathlib.Core.Path.{◌≡◌, refl, sym, ap, ap₂, ◌∙◌, subst}
+use mathlib.Core.Path.{◌≡◌, sym, ap, ap₂, ◌∙◌, subst}
 use Prim.Native.Nat.{ℕ, zero, suc, ◌+◌, ◌-◌, ◌*◌, ◌/◌, ◌^◌, ◌≤◌, ◌<◌}
 use native.Mathlib.Omega.{arith}
 use native.Mathlib.Nat.{add-zero, zero-add}
@@ -9,7 +9,7 @@ use native.Mathlib.Numerals.{add-one}
 use lib.Dec.{ltb}
 use lib.IntN.{ℤ, pos, neg_ℤ}
 use lib.ListN.{length, take, drop, get_or, set}
-use lib.Seq.{get_or-take, get_or-drop, drop-cons, drop-drop, append_snoc, set_at}
+use lib.Seq.{get_or-take, drop-cons, append_snoc, set_at}
 use mir.Syntax.{w8, w16}
 use mir.Facts.{to_z-of_z}
 use mir.Val.{Fits, SFits, to_z, of_z}
@@ -18,7 +18,7 @@ use Rattle.std.specs.Simd.{first_chunks}
 use Rattle.coding.specs.Numbers.{number_at}
 use Rattle.coding.specs.Samples.{signed, samples_at}
 use Rattle.coding.proofs.Laws.{samples_at_length, signed_fits}
-use Rattle.coding.proofs.Numbers.{IsPart, two_bytes}
+use Rattle.coding.proofs.Numbers.{pair_number}
 
 -- the sample of a word, as the library's cast has it
 cast : (w : ℕ) → w < 2 ^ 16 → to_z w16 w ≡ signed w
@@ -27,26 +27,15 @@ cast w h =
     let e : 2 ^ 16 - w ≡ suc (2 ^ 16 - suc w) = omega arith in
     sym (ap (λ (n : ℕ). cond (ltb w (2 ^ 15)) (pos w) (neg_ℤ (pos n))) e)
 
--- a pair of bytes
-chunk : (b : List ℕ) (k j : ℕ) (d : List ℕ) → j < k → get_or (first_chunks 2 k b) j d ≡ take 2 (drop (2 * j) b)
-chunk b zero j d h = absurd (omega arith)
-chunk b (suc k) zero d h = refl
-chunk b (suc k) (suc j) d h =
-    let e : 2 + 2 * j ≡ 2 * suc j = omega arith in
-    chunk (drop 2 b) k j d (omega arith) ∙ ap (take 2) (drop-drop (2 * j) 2 b ∙ ap (λ (n : ℕ). drop n b) e)
-
--- which the library reads as the sample that stands there
+-- the sample in a pair of bytes
 pub pair_sample : (b : List ℕ) (pairs : List (List ℕ)) (n j : ℕ) (d : List ℕ)
     → pairs ≡ first_chunks 2 (length b / 2) b → ((i : ℕ) → Fits w8 (get_or b i 0)) → j < n → n ≤ length b / 2
     → to_z w16 (from_le_bytes w16 (get_or (take n pairs) j d)) ≡ signed (number_at b (2 * j) 2)
 unfolding number_at
 pair_sample b pairs n j d e small h m =
-    let pair = get_or (take n pairs) j d in
-    let at : pair ≡ take 2 (drop (2 * j) b) =
-    get_or-take n pairs j d h ∙ ap (λ (q : List (List ℕ)). get_or q j d) e ∙ chunk b (length b / 2) j d (omega arith)
-    in
-    let part : IsPart pair b (2 * j) 2 = λ i l. ap (λ (q : List ℕ). get_or q i 0) at ∙ get_or-take 2 (drop (2 * j) b) i 0 l ∙ get_or-drop (2 * j) b i 0 in
-    ap (to_z w16) (two_bytes pair b (2 * j) part) ∙ cast (number_at b (2 * j) 2) (omega (arith, (small (2 * j)).fits, (small (2 * j + 1)).fits))
+    ap (λ (p : List ℕ). to_z w16 (from_le_bytes w16 p)) (get_or-take n pairs j d h)
+    ∙ ap (to_z w16) (pair_number b pairs j d e (omega arith))
+    ∙ cast (number_at b (2 * j) 2) (omega (arith, (small (2 * j)).fits, (small (2 * j + 1)).fits))
 
 -- one sample more
 last : (b : List ℕ) (at k : ℕ) → samples_at b at (suc k) ≡ samples_at b at k ++ (signed (number_at b (at + 2 * k) 2) ∷ [])

@@ -1,12 +1,14 @@
 -- Numbers by their bytes.
 use mathlib.Core.List.{List}
 use mathlib.Core.Path.{◌≡◌, refl, sym, ap, ap₂, ◌∙◌}
-use Prim.Native.Nat.{ℕ, zero, suc, ◌+◌, ◌*◌, ◌<◌}
+use Prim.Native.Nat.{ℕ, zero, suc, ◌+◌, ◌*◌, ◌/◌, ◌<◌}
 use native.Mathlib.Omega.{arith}
 use native.Mathlib.Nat.{add_assoc, add-zero}
-use lib.ListN.{get_or}
+use lib.ListN.{length, get_or, take, drop}
+use lib.Seq.{get_or-take, get_or-drop, drop-drop}
 use mir.Syntax.{w16, w64}
 use Rattle.std.specs.Int.{from_le_bytes}
+use Rattle.std.specs.Simd.{first_chunks}
 use Rattle.coding.specs.Numbers.{number_at}
 
 pub one_byte : (b : List ℕ) (at : ℕ) → get_or b at 0 ≡ number_at b at 1
@@ -36,3 +38,17 @@ two_bytes p b at h = let e : from_le_bytes w16 p ≡ number_at p 0 2 = omega ari
 pub eight_bytes : (p b : List ℕ) (at : ℕ) → IsPart p b at 8 → from_le_bytes w64 p ≡ number_at b at 8
 unfolding number_at
 eight_bytes p b at h = let e : from_le_bytes w64 p ≡ number_at p 0 8 = omega arith in e ∙ whole p b at 8 h
+
+-- a pair of bytes out of all pairs
+pair : (b : List ℕ) (k j : ℕ) (d : List ℕ) → j < k → get_or (first_chunks 2 k b) j d ≡ take 2 (drop (2 * j) b)
+pair b zero j d h = absurd (omega arith)
+pair b (suc k) zero d h = refl
+pair b (suc k) (suc j) d h =
+    let e : 2 + 2 * j ≡ 2 * suc j = omega arith in
+    pair (drop 2 b) k j d (omega arith) ∙ ap (take 2) (drop-drop (2 * j) 2 b ∙ ap (λ (n : ℕ). drop n b) e)
+
+pub pair_number : (b : List ℕ) (pairs : List (List ℕ)) (j : ℕ) (d : List ℕ)
+    → pairs ≡ first_chunks 2 (length b / 2) b → j < length b / 2 → from_le_bytes w16 (get_or pairs j d) ≡ number_at b (2 * j) 2
+pair_number b pairs j d e h =
+    let at : get_or pairs j d ≡ take 2 (drop (2 * j) b) = ap (λ (q : List (List ℕ)). get_or q j d) e ∙ pair b (length b / 2) j d h in
+    two_bytes (get_or pairs j d) b (2 * j) (λ i l. ap (λ (q : List ℕ). get_or q i 0) at ∙ get_or-take 2 (drop (2 * j) b) i 0 l ∙ get_or-drop (2 * j) b i 0)

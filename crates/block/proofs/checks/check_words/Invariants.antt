@@ -6,12 +6,8 @@ use Rattle.block.proofs.checks.check_words.Given as goal
 abbrev pub invariant-loop-i : goal.invariant-loop-i
 invariant-loop-i l =
     record {
-      in_range : l.i ≤ 254;
       sum : l.sum ≡ sum_below (λ k. word l.block k) l.i;
       weighted : l.weighted ≡ sum_below (λ k. (254 - k) * word l.block k) l.i;
       sum_small : l.sum ≤ 65535 * l.i;
       weighted_small : l.weighted ≤ 254 * 65535 * l.i;
     }
-
-abbrev pub decreases-loop-i : goal.decreases-loop-i
-decreases-loop-i l = 254 - l.i
