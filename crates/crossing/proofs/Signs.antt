@@ -1,9 +1,10 @@
 -- A crossing by the signs of d, as an Ordering has them.
-use Rattle.std.proofs.Common.{◌&&◌, ◌||◌, List, ◌≡◌, refl, ℕ, zero, suc, ◌-◌, ℤ, pos, negsuc, leb, ltb, arith}
+use Rattle.std.proofs.Common.{◌&&◌, ◌||◌, List, ◌≡◌, refl, ℕ, ◌-◌, ℤ, pos, negsuc, leb, ltb, arith}
 use Rattle.std.specs.Int.Signed.{lt_z}
 use Rattle.std.specs.Ordering.{int_cmp, is_eq, is_gt, is_lt}
 use Rattle.std.specs.declared.cmp.Ordering.{Ordering}
 use Rattle.std.proofs.lemmas.Bool.Decides.{nat_tests}
+use Rattle.std.proofs.lemmas.Int.{ints}
 use Rattle.level.specs.Types.{activity}
 use Rattle.level.specs.declared.Samples.{Samples}
 use Rattle.thresholds.specs.declared.Thresholds.{Thresholds}
@@ -11,19 +12,14 @@ use Rattle.crossing.specs.Crossing.{is_zero, is_crossing}
 use Rattle.crossing.specs.Levels.{excess}
 
 pub zero_by_sign : (x : ℤ) → is_zero x ≡ is_eq (int_cmp x (pos 0))
-zero_by_sign (pos zero) = refl
-zero_by_sign (pos (suc n)) = grind (arith, nat_tests)
+zero_by_sign (pos n) = grind (arith, nat_tests)
 zero_by_sign (negsuc n) = refl
 
 above_by_sign : (x : ℤ) → lt_z (pos 0) x ≡ is_gt (int_cmp x (pos 0))
-above_by_sign (pos zero) = refl
-above_by_sign (pos (suc n)) = grind (arith, nat_tests)
-above_by_sign (negsuc n) = refl
+above_by_sign x = grind (arith, ints)
 
 below_by_sign : (x : ℤ) → lt_z x (pos 0) ≡ is_lt (int_cmp x (pos 0))
-below_by_sign (pos zero) = refl
-below_by_sign (pos (suc n)) = grind (arith, nat_tests)
-below_by_sign (negsuc n) = refl
+below_by_sign x = grind (arith, ints)
 
 module _ (M S : ℤ) (T : Thresholds) (a : List Samples) where
   abbrev pub sign : ℕ → Ordering
