@@ -43,7 +43,8 @@ impl From<NoCrossing> for Refusal {
     }
 }
 
-// The levels of n samples with the sum of squares sq and, at a list of thresholds, the activity counts a.
+// The levels of n samples with the sum of squares sq and, at a list of thresholds, the activity
+// counts a.
 #[tactic(auto, using(crate::proofs::Sizes::level_read, crate::proofs::Searching::found), unfolding(crate::specs::Crossing::crossing))]
 pub fn find_levels(
     n: Samples,

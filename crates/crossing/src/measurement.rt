@@ -1,5 +1,5 @@
-// What a measurement's levels are worked out from; the levels at its thresholds, the search for the highest
-// crossing, and the active level at it.
+// What a measurement's levels are worked out from, the levels at its thresholds, the search for the
+// highest crossing, and the active level at it.
 ghost use Rattle.std.specs.Prelude.{◌≡◌, ◌≤◌, ◌<◌, cond, pos, true, ◌-ℤ◌, ◌≤ℤ◌, nat_abs};
 ghost use Rattle.std.specs.Int.Signed.{lt_z};
 ghost use Rattle.level.specs.Logarithm.{lev};
@@ -128,7 +128,8 @@ impl Measurement<'_> {
 }
 
 impl Point {
-    // The level that lies between two as 0 lies between their differences, rounded towards the first.
+    // The level that lies between two as 0 lies between their differences, rounded towards the
+    // first.
     #[tactic(auto, using(crate::proofs::Interpolation::between))]
     fn up_to(self, upper: Point) -> Steps
         requires rises { pos 0 ≤ℤ (upper.active.0 -ℤ self.active.0) }
@@ -155,6 +156,7 @@ fn level_of_threshold(c: u64) -> Steps
     level + level - Steps::from(INTERVAL_STEPS)
 }
 
+// How many steps x is from 0.
 fn size(x: Steps) -> u64
     ensures { result ≡ nat_abs x.0 }
 {
