@@ -54,11 +54,13 @@ impl State {
         requires { Within by list (length xs.now) self }
         ensures { result ≡ state_after by list self xs.now }
     {
-        let Some(&first) = xs.first() else {
+        if xs.is_empty() {
             return self;
-        };
+        }
         let State { sums, a, h } = self;
-        let mut moving = sums.begin().step(by, first);
+        // By its index: from `first` the inner loop keeps other values in registers, and takes two
+        // instructions more.
+        let mut moving = sums.begin().step(by, xs[0]);
         let mut band = Band::lowest(&list).around(moving.q);
         let since = [0; PLACES];
         let mut counters = Counters {
