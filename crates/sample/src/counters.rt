@@ -8,7 +8,8 @@ use crate::band::Band;
 use level::{Quantity, Samples};
 use thresholds::PLACES;
 
-// The counts, the hangovers, which are at most I, and the indices.
+// The counts, the hangovers, which are at most I, and the indices. They are three arrays and not one of
+// structs, since the first two are the state's, which are handed over as they are.
 #[derive(Drop)]
 pub struct Counters {
     pub a: [Samples; PLACES],

@@ -22,7 +22,8 @@ use level::{Samples, Squares};
 use runs::run_on;
 use thresholds::{PLACES, Thresholds};
 
-// What counting goes by: the rate's K and I, and the offset.
+// What counting goes by: the rate's K and I, and the offset. That K is at most 2^20 is a clause and no
+// invariant: the definition `counting_of` makes one of any setting.
 #[derive(Clone, Copy)]
 pub struct Counting {
     pub k: u64,
