@@ -25,53 +25,31 @@ use Rattle.thresholds.proofs.Places.{filled_at, filled_same}
 
 pub on_count : (I : ℕ) (on : Bool) (d a h : ℕ) → on ≡ true → a + d ≡ count_over I on d a h
 unfolding count_over counted
-on_count I on d a h e = sym (ap (λ (b : Bool). count_over I b d a h) e ∙ go d)
-  where
-    go : (d : ℕ) → count_over I true d a h ≡ a + d
-    go zero = sym (add-zero a)
-    go (suc d) = omega (arith, go d)
+on_count I on zero a h e = add-zero a
+on_count I on (suc d) a h e = grind (arith, nat_tests, on_count I on d a h e)
 
 pub on_hangover : (I : ℕ) (on : Bool) (d h : ℕ) → on ≡ true → (d ≡ 0 → ⊥) → 0 ≡ hangover_over I on d h
 unfolding hangover_over hung
 on_hangover I on zero h e z = absurd (z refl)
-on_hangover I on (suc d) h e z = sym (ap (λ (b : Bool). hangover_over I b (suc d) h) e)
+on_hangover I on (suc d) h e z = grind (arith, nat_tests)
 
 -- ---- off: those that the hangover has left
 
-off_one : (I x h : ℕ) → h ≤ I → counted I false x h ≡ x + min 1 (I - h)
-unfolding counted
-off_one I x h l = grind (arith, nat_tests)
+hangover_off : (I : ℕ) (on : Bool) (d h : ℕ) → on ≡ false → h ≤ I → hangover_over I on d h ≡ h + min d (I - h)
+unfolding hangover_over hung
+hangover_off I on zero h e l = omega arith
+hangover_off I on (suc d) h e l = grind (arith, nat_tests, hangover_off I on d h e l)
 
-off_hung : (I h : ℕ) → h ≤ I → hung I false h ≡ h + min 1 (I - h)
-unfolding hung
-off_hung I h l = grind (arith, nat_tests)
-
-off_hangover_go : (I d h : ℕ) → h ≤ I → hangover_over I false d h ≡ h + min d (I - h)
-unfolding hangover_over
-off_hangover_go I zero h l = omega arith
-off_hangover_go I (suc d) h l =
-    let ih = off_hangover_go I d h l in
-    off_hung I (hangover_over I false d h) (omega arith) ∙ next (hangover_over I false d h) ih
-  where
-    next : (H : ℕ) → H ≡ h + min d (I - h) → H + min 1 (I - H) ≡ h + min (suc d) (I - h)
-    next H e = omega arith
-
-off_count_go : (I d a h : ℕ) → h ≤ I → count_over I false d a h ≡ a + min d (I - h)
-unfolding count_over
-off_count_go I zero a h l = omega arith
-off_count_go I (suc d) a h l =
-    let ih = off_count_go I d a h l in
-    let hh = off_hangover_go I d h l in
-    off_one I (count_over I false d a h) (hangover_over I false d h) (omega arith) ∙ next (count_over I false d a h) (hangover_over I false d h) ih hh
-  where
-    next : (A H : ℕ) → A ≡ a + min d (I - h) → H ≡ h + min d (I - h) → A + min 1 (I - H) ≡ a + min (suc d) (I - h)
-    next A H e g = omega arith
+count_off : (I : ℕ) (on : Bool) (d a h : ℕ) → on ≡ false → h ≤ I → count_over I on d a h ≡ a + min d (I - h)
+unfolding count_over counted
+count_off I on zero a h e l = omega arith
+count_off I on (suc d) a h e l = grind (arith, nat_tests, count_off I on d a h e l, hangover_off I on d h e l)
 
 pub off_hangover : (I : ℕ) (on : Bool) (d h m : ℕ) → on ≡ false → h ≤ I → m ≡ min d (I - h) → h + m ≡ hangover_over I on d h
-off_hangover I on d h m e l q = ap (λ (x : ℕ). h + x) q ∙ sym (ap (λ (b : Bool). hangover_over I b d h) e ∙ off_hangover_go I d h l)
+off_hangover I on d h m e l q = omega (arith, hangover_off I on d h e l)
 
 pub off_count : (I : ℕ) (on : Bool) (d a h m : ℕ) → on ≡ false → h ≤ I → m ≡ min d (I - h) → a + m ≡ count_over I on d a h
-off_count I on d a h m e l q = ap (λ (x : ℕ). a + x) q ∙ sym (ap (λ (b : Bool). count_over I b d a h) e ∙ off_count_go I d a h l)
+off_count I on d a h m e l q = omega (arith, count_off I on d a h e l)
 
 -- an empty run changes nothing
 pub no_count_lem : (I : ℕ) (on : Bool) (d a h : ℕ) → d ≡ 0 → count_over I on d a h ≡ a
