@@ -1,6 +1,5 @@
 mod Blocks
 mod Finding
-mod Handing
 pub mod Laws
 pub mod Range
 pub mod Possible

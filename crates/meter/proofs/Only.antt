@@ -1,6 +1,6 @@
 -- Nothing is left to choice: a report that METHOD.md allows on a meter is the one that is given, and an untouched meter of a setting is one meter.
 use mathlib.Core.Bool.{Bool, true, false, false≢true}
-use mathlib.Core.Option.{Option, none, some}
+use Rattle.std.specs.Prelude.{Option, Some, None}
 use mathlib.Core.Path.{◌≡◌, refl, sym, ap, ◌∙◌}
 use Prim.Native.Nat.{ℕ, ◌<◌}
 use native.Mathlib.Omega.{arith}
@@ -19,11 +19,11 @@ use Rattle.meter.specs.declared.Meter.{Meter}
 use Rattle.meter.specs.declared.Report.{Report}
 use Rattle.meter.specs.Answered.{power_of, CrossingAt, Used, ReportAt, AllZero, Active, Answered, when_no_samples, when_no_signal, when_no_activity, when_level_below, when_level_above, levels}
 use Rattle.meter.specs.Calls.{HandedReport, report_call}
-use Rattle.meter.specs.Inner.{refused_report, reported_with}
+use Rattle.meter.specs.Inner.{Tested, refused_report, reported_with}
 use Rattle.meter.specs.Opened.{Untouched}
 use Rattle.meter.specs.Refusals.{impossible}
 use Rattle.meter.specs.Reports.{margin_of, list_of, crossing_of, first_of_meter, no_samples, no_signal, no_activity, report_at}
-use Rattle.meter.proofs.Outcome.{Tested, at_0, at_12, at_13, at_14, at_15, at_16, nowhere, used, zero_report, at_crossing}
+use Rattle.meter.proofs.Outcome.{at_0, at_12, at_13, at_14, at_15, at_16, nowhere, used, zero_report, at_crossing}
 use Rattle.meter.proofs.Possible.{possible, falling}
 
 -- two things that are a third
@@ -108,19 +108,19 @@ module _ (m : Meter) (ok : impossible m ≡ false) where
   unfolding no_samples no_signal no_activity
   tested a = record { passed = ok; n_some = not_zero _ a.n; sq_some = not_zero _ a.sq; a_some = not_zero _ a.a }
 
-  none_found : Active m → ((j : ℕ) → CrossingAt m j → ⊥) → crossing_of m ≡ none
+  none_found : Active m → ((j : ℕ) → CrossingAt m j → ⊥) → crossing_of m ≡ None
   none_found a nowhere-else = go (crossing_of m) refl
     where
-      go : (o : Option ℕ) → crossing_of m ≡ o → o ≡ none
-      go none e = refl
-      go (some j) e = absurd (nowhere-else j (used m (tested a) j e).crossing)
+      go : (o : Option ℕ) → crossing_of m ≡ o → o ≡ None
+      go None e = refl
+      go (Some j) e = absurd (nowhere-else j (used m (tested a) j e).crossing)
 
-  found : Active m → (j : ℕ) → Used m j → crossing_of m ≡ some j
+  found : Active m → (j : ℕ) → Used m j → crossing_of m ≡ Some j
   found a j u = go (crossing_of m) refl
     where
-      go : (o : Option ℕ) → crossing_of m ≡ o → o ≡ some j
-      go none e = absurd (nowhere m (tested a) e j u.crossing)
-      go (some i) e = ap some (used_once (used m (tested a) i e) u)
+      go : (o : Option ℕ) → crossing_of m ≡ o → o ≡ Some j
+      go None e = absurd (nowhere m (tested a) e j u.crossing)
+      go (Some i) e = ap Some (used_once (used m (tested a) i e) u)
 
   active : 0 < m.state.sums.n.0 → 0 < two_words m.state.sums.sq → (j : ℕ) → Used m j → Active m
   active n s j u =

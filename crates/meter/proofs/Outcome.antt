@@ -2,7 +2,7 @@
 -- `answered`.
 use mathlib.Core.Bool.{Bool, true, false, cond, ◌&&◌, true≢false}
 use mathlib.Core.List.{List, [], ◌∷◌}
-use mathlib.Core.Option.{Option, none, some}
+use Rattle.std.specs.Prelude.{Option, Some, None, is_none}
 use mathlib.Core.Path.{◌≡◌, refl, sym, ap, ◌∙◌, subst}
 use Prim.Native.Nat.{ℕ, zero, suc, ◌<◌}
 use native.Mathlib.Nat.{pos_of_ne-zero}
@@ -27,9 +27,9 @@ use Rattle.percent.proofs.Laws.{percent_is}
 use Rattle.meter.specs.declared.Meter.{Meter}
 use Rattle.meter.specs.Answered.{power_of, CrossingAt, Used, ReportAt, AllZero, Active, Answered, when_no_samples, when_no_signal, when_no_activity, when_level_below, when_level_above, levels}
 use Rattle.meter.specs.Calls.{HandedReport, report_call}
-use Rattle.meter.specs.Inner.{refused_report, reported_with}
+use Rattle.meter.specs.Inner.{Tested, refused_report, reported_with}
 use Rattle.meter.specs.Refusals.{impossible}
-use Rattle.meter.specs.Reports.{margin_of, list_of, is_none, crossing_of, first_of_meter, no_samples, no_signal, no_activity, level_below, level_above, report_rules, no_report, report_with, report_at, report_for}
+use Rattle.meter.specs.Reports.{margin_of, list_of, crossing_of, first_of_meter, no_samples, no_signal, no_activity, level_below, level_above, report_rules, no_report, report_with, report_at, report_for}
 
 -- a refused report
 pub no_report_lem : (k : ℕ) (m : Meter) → 0 < k → k ≡ first_of (report_rules m) → refused_report k m ≡ report_call m
@@ -63,13 +63,6 @@ highest_used m j h =
 
 -- ---- the number and the report, where the tests before have passed
 
--- the tests before the search
-pub record Tested (m : Meter) : Type 0 where
-  pub passed : impossible m ≡ false
-  pub n_some : no_samples m ≡ false
-  pub sq_some : no_signal m ≡ false
-  pub a_some : no_activity m ≡ false
-
 module _ (m : Meter) (ok : impossible m ≡ false) where
   pub at_12 : no_samples m ≡ true → refused_report 12 m ≡ report_call m
   unfolding report_rules
@@ -102,7 +95,7 @@ module _ (m : Meter) (t : Tested m) where
   unfolding level_above
   above_is o e = ap (λ (o : Option ℕ). is_none o && lt_z (pos 0) (first_of_meter m)) e
 
-  pub nowhere : crossing_of m ≡ none → (j : ℕ) → CrossingAt m j → ⊥
+  pub nowhere : crossing_of m ≡ None → (j : ℕ) → CrossingAt m j → ⊥
   unfolding crossing_of crossing_in crossing
   nowhere e j c = no_crossing m j (not_found (crosses m) (list_of m).count e j c.place) c
 
@@ -110,7 +103,7 @@ module _ (m : Meter) (t : Tested m) where
   unfolding no_activity
   a_above = pos_of_ne-zero (eqb-false _ 0 t.a_some)
 
-  above_zero : crossing_of m ≡ none → lt_z (first_of_meter m) (pos 0) ≡ false → lt_z (pos 0) (first_of_meter m) ≡ true
+  above_zero : crossing_of m ≡ None → lt_z (first_of_meter m) (pos 0) ≡ false → lt_z (pos 0) (first_of_meter m) ≡ true
   unfolding first_of_meter first_excess
   above_zero e b = go (lt_z (pos 0) (first_of_meter m)) refl
     where
@@ -118,21 +111,21 @@ module _ (m : Meter) (t : Tested m) where
       go true p = refl
       go false p = absurd (nowhere e 0 (record { place = omega (arith, (loaded (list_of m) (possible m t.passed).list).least); crosses = first_crosses (margin_of m) (power_of m) (list_of m) m.state.a a_above (signs (first_of_meter m) b p) }))
 
-  pub at_15 : crossing_of m ≡ none → lt_z (first_of_meter m) (pos 0) ≡ true → refused_report 15 m ≡ report_call m
-  at_15 e b = no_report_lem 15 m (omega arith) (four 15 (here 15 (level_below m) _ (below_is none e ∙ b)))
+  pub at_15 : crossing_of m ≡ None → lt_z (first_of_meter m) (pos 0) ≡ true → refused_report 15 m ≡ report_call m
+  at_15 e b = no_report_lem 15 m (omega arith) (four 15 (here 15 (level_below m) _ (below_is None e ∙ b)))
 
-  pub at_16 : crossing_of m ≡ none → lt_z (first_of_meter m) (pos 0) ≡ false → refused_report 16 m ≡ report_call m
+  pub at_16 : crossing_of m ≡ None → lt_z (first_of_meter m) (pos 0) ≡ false → refused_report 16 m ≡ report_call m
   at_16 e b =
-      no_report_lem 16 m (omega arith) (four 16 (past 15 (level_below m) _ (below_is none e ∙ b) (here 16 (level_above m) _ (above_is none e ∙ above_zero e b))))
+      no_report_lem 16 m (omega arith) (four 16 (past 15 (level_below m) _ (below_is None e ∙ b) (here 16 (level_above m) _ (above_is None e ∙ above_zero e b))))
 
-  pub at_0 : (j : ℕ) → crossing_of m ≡ some j → reported_with (levels_at (margin_of m) m.state.sums.n.0 (two_words m.state.sums.sq) (list_of m) m.state.a j) m ≡ report_call m
+  pub at_0 : (j : ℕ) → crossing_of m ≡ Some j → reported_with (levels_at (margin_of m) m.state.sums.n.0 (two_words m.state.sums.sq) (list_of m) m.state.a j) m ≡ report_call m
   unfolding reported_with report_call report_for report_at
   at_0 j e =
       ap (λ (r : ℕ). record { number = r; meter = m; report = cond (eqb r 0) (report_at m j) no_report })
-      (four 0 (past 15 (level_below m) _ (below_is (some j) e) (past 16 (level_above m) _ (above_is (some j) e) no-rule)))
+      (four 0 (past 15 (level_below m) _ (below_is (Some j) e) (past 16 (level_above m) _ (above_is (Some j) e) no-rule)))
       ∙ ap (λ (o : Option ℕ). record { number = first_of (report_rules m); meter = m; report = cond (eqb (first_of (report_rules m)) 0) (report_for m o) no_report }) (sym e)
 
-  pub used : (j : ℕ) → crossing_of m ≡ some j → Used m j
+  pub used : (j : ℕ) → crossing_of m ≡ Some j → Used m j
   unfolding crossing_of crossing_in crossing
   used j e = highest_used m j (found (crosses m) (list_of m).count j e)
 
@@ -159,13 +152,13 @@ answered m ok = by_n (no_samples m) refl
     above : (n : ℕ) → eqb n 0 ≡ false → 0 < n
     above n e = pos_of_ne-zero (eqb-false n 0 e)
 
-    by_sign : (t : Tested m) → Active m → crossing_of m ≡ none → (b : Bool) → lt_z (first_of_meter m) (pos 0) ≡ b → Reads m (report_call m)
+    by_sign : (t : Tested m) → Active m → crossing_of m ≡ None → (b : Bool) → lt_z (first_of_meter m) (pos 0) ≡ b → Reads m (report_call m)
     by_sign t a e true b = subst (Reads m) (at_15 m t e b) (when_level_below no_report zero_report a (nowhere m t e) b)
     by_sign t a e false b = subst (Reads m) (at_16 m t e b) (when_level_above no_report zero_report a (nowhere m t e) (above_zero m t e b))
 
     by_crossing : (t : Tested m) → Active m → (o : Option ℕ) → crossing_of m ≡ o → Reads m (report_call m)
-    by_crossing t a none e = by_sign t a e (lt_z (first_of_meter m) (pos 0)) refl
-    by_crossing t a (some j) e = subst (Reads m) (at_0 m t j e) (levels (report_at m j) j a.n a.sq (used m t j e) (at_crossing m j))
+    by_crossing t a None e = by_sign t a e (lt_z (first_of_meter m) (pos 0)) refl
+    by_crossing t a (Some j) e = subst (Reads m) (at_0 m t j e) (levels (report_at m j) j a.n a.sq (used m t j e) (at_crossing m j))
 
     by_a : no_samples m ≡ false → no_signal m ≡ false → (b : Bool) → no_activity m ≡ b → Reads m (report_call m)
     by_a n s true e = subst (Reads m) (at_14 m ok n s e) (when_no_activity no_report zero_report (above _ n) (above _ s) (eqb-true _ 0 e))

@@ -2,8 +2,8 @@
 use mathlib.Core.Bool.{Bool, true, false, not, ◌&&◌}
 use mathlib.Core.List.{List, [], ◌∷◌}
 use mathlib.Core.Path.{◌≡◌, refl, sym, ap, ◌∙◌, subst}
-use Prim.Native.Nat.{ℕ, zero, suc, ◌+◌, ◌-◌, ◌*◌, ◌≤◌, ◌<◌}
-use native.Mathlib.Nat.{le_of_eq, le_trans, add-zero}
+use Prim.Native.Nat.{ℕ, min, zero, suc, ◌+◌, ◌-◌, ◌*◌, ◌≤◌, ◌<◌}
+use native.Mathlib.Nat.{min-eq_left, le_of_eq, le_trans, add-zero}
 use native.Mathlib.Numerals.{add-one}
 use native.Mathlib.Omega.{arith}
 use borrow.Author.Tests.{le-ltb, ltb-false, not-false}
@@ -11,7 +11,9 @@ use lib.Dec.{leb, ltb}
 use lib.IntN.{nat_abs}
 use lib.ListN.{get_or}
 use Rattle.level.specs.Types.{most_samples, activity, two_words}
+use Rattle.thresholds.specs.declared.Thresholds.{Thresholds}
 use Rattle.thresholds.specs.Lists.{places, unloadable}
+use Rattle.thresholds.proofs.Laws.{loaded}
 use Rattle.std.proofs.lemmas.Bool.{or_parts, or_from}
 use Rattle.thresholds.proofs.Below.{none_below, each_below, none_from, each_from}
 use Rattle.rate.specs.Rates.{is_named}
@@ -36,6 +38,10 @@ pub record Possible (m : Meter) : Type 0 where
   pub h_rises : (j : ℕ) → j + 1 < m.setting.thresholds.count → get_or m.state.h j 0 ≤ get_or m.state.h (j + 1) 0
   pub a_past : (j : ℕ) → j < places → m.setting.thresholds.count ≤ j → activity m.state.a j ≤ 0
   pub h_past : (j : ℕ) → j < places → m.setting.thresholds.count ≤ j → get_or m.state.h j 0 ≤ 0
+
+-- a list that loads has no more thresholds than places
+pub places_read : (t : Thresholds) → unloadable t ≡ false → min t.count places ≡ t.count
+places_read t e = min-eq_left (loaded t e).most
 
 -- ---- two neighbours, where there are two
 
@@ -130,3 +136,11 @@ pub falling : (m : Meter) → Possible m → (i j : ℕ) → i ≤ j → j < m.s
 falling m p i j h l =
     let s : i + (j - i) ≡ j = omega arith in
     subst (λ (x : ℕ). activity m.state.a x ≤ activity m.state.a i) s (fall (λ x. activity m.state.a x) m.setting.thresholds.count p.a_falls i (j - i) (omega arith))
+
+-- ---- what the code asks of it
+
+pub named_code : (m : Meter) → impossible m ≡ false → is_named m.setting.code ≡ true
+named_code m e = (possible m e).named
+
+pub few_samples : (m : Meter) → impossible m ≡ false → m.state.sums.n.0 ≤ most_samples
+few_samples m e = (possible m e).n_max

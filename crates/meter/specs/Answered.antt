@@ -1,7 +1,6 @@
 -- The report on a meter, as a relation between the meter and what is answered: "The report" and "Why a call is refused". It says what is
 -- reported, and nothing of how a crossing is searched for.
-use Rattle.std.specs.Prelude.{true, false, ◌≡◌, ℕ, ◌≤◌, ◌<◌, ℤ, pos, ◌-ℤ◌, replicate}
-use Rattle.std.proofs.Math.Option.{some}
+use Rattle.std.specs.Prelude.{Some, true, false, ◌≡◌, ℕ, ◌≤◌, ◌<◌, ℤ, pos, ◌-ℤ◌, replicate}
 use Rattle.std.specs.Int.Signed.{lt_z}
 use Rattle.level.specs.Logarithm.{lev, level_of}
 use Rattle.level.specs.Types.{samples_of, activity, two_words}
@@ -87,7 +86,7 @@ pub data Answered (m : Meter) : ℕ → Report → Type 0 where
 
 -- what a report takes the level of has one: n and sq where they are above 0, each a_j that is, each threshold, and each percentage that it may try
 abbrev HasLevel : ℕ → Type 0
-HasLevel N = level_of N ≡ some (pos (lev N))
+HasLevel N = level_of N ≡ Some (pos (lev N))
 
 pub record LevelsExist (m : Meter) : Type 0 where
   pub of_n : 0 < m.state.sums.n.0 → HasLevel m.state.sums.n.0

@@ -1,6 +1,5 @@
 -- The report on a meter: METHOD.md, "The report", and its refusals.
-use Rattle.std.specs.Prelude.{Bool, true, false, ◌&&◌, List, [], ◌∷◌, ℕ, eqb, ℤ, pos}
-use Rattle.std.proofs.Math.Option.{Option, none, some}
+use Rattle.std.specs.Prelude.{Option, Some, None, is_none, Bool, false, ◌&&◌, List, [], ◌∷◌, ℕ, eqb, ℤ, pos}
 use Rattle.std.specs.Int.Signed.{lt_z}
 use Rattle.level.specs.Types.{samples_of, hundredths_of, steps_of, activity, two_words, words}
 use Rattle.thresholds.specs.Lists.{places}
@@ -18,10 +17,6 @@ use Rattle.meter.specs.Refusals.{impossible}
 -- M, the meter's margin
 abbrev pub margin_of : Meter → ℤ
 margin_of m = m.setting.margin.0
-
-abbrev pub is_none : Option ℕ → Bool
-is_none none = true
-is_none (some j) = false
 
 -- the meter's list
 abbrev pub list_of : Meter → Thresholds
@@ -101,5 +96,5 @@ report_at m j =
 
 -- the report at what the search for a crossing found
 unfoldable pub report_for : Meter → Option ℕ → Report
-report_for m none = no_report
-report_for m (some j) = report_at m j
+report_for m None = no_report
+report_for m (Some j) = report_at m j

@@ -9,7 +9,7 @@ mod usable;
 
 use crossing::Levels;
 use level::{Hundredths, Samples, Squares, Steps};
-use refusal::Answer;
+use refusal::Refusal;
 use sample::State;
 use setting::Setting;
 use thresholds::PLACES;
@@ -38,14 +38,14 @@ pub struct Report {
 // What a call hands back: its answer, and the meter.
 #[derive(Clone, Copy)]
 pub struct Fed {
-    pub answer: Answer,
+    pub answer: Result<(), Refusal>,
     pub meter: Meter,
 }
 
 // What a report call hands back: its answer, the meter, and the report.
 #[derive(Clone, Copy)]
 pub struct Reported {
-    pub answer: Answer,
+    pub answer: Result<(), Refusal>,
     pub meter: Meter,
     pub report: Report,
 }

@@ -1,33 +1,28 @@
 // Refusal 2: a meter that no measurement could hold. Its conditions are tested in the definition's order.
-ghost use Rattle.std.specs.Prelude.{◌≡◌};
-ghost use Rattle.rate.specs.Rates.{named};
-ghost use Rattle.meter.specs.Inner.{usable_rate};
+ghost use Rattle.std.specs.Prelude.{true, ◌≡◌, IfOk, IfErr};
+ghost use Rattle.meter.specs.Inner.{Usable};
+ghost use Rattle.meter.specs.Refusals.{impossible};
 
 use crate::Meter;
-use rate::{Named, Rate};
+use rate::Rate;
+use refusal::Refusal;
 
-// The rate of a meter that a measurement could hold; of any other, none.
-pub(crate) fn rate(m: Meter) -> Named
-    ensures { named result ≡ usable_rate m }
-{
-    match Rate::of(m.setting.code) {
-        Named::As(rate) => {
-            let list = m.setting.thresholds;
-            let count = list.count;
-            if thresholds::unloadable(&list.at, count) {
-                return Named::Nothing;
-            }
-            if setting::wrong_margin(m.setting.margin) {
-                return Named::Nothing;
-            }
-            if possible::impossible_sums(m.state.sums) {
-                return Named::Nothing;
-            }
-            if possible::impossible_counters(m.state, count, rate.i) {
-                return Named::Nothing;
-            }
-            Named::As(rate)
+impl Meter {
+    // The rate of a meter that a measurement could hold.
+    #[tactic(auto, using(crate::proofs::Possible::places_read), unfolding(crate::specs::Refusals::impossible, crate::specs::Refusals::unnamed_code, possible::specs::Impossible::any_of, rate::specs::Rates::is_named, setting::specs::Settings::i_of, rate::specs::Rates::row_of))]
+    pub(crate) fn usable_rate(&self) -> Result<Rate, Refusal>
+        ensures usable { IfOk result (λ rate. Usable self.now rate) }
+        ensures refused { IfErr result (λ why. (why ≡ Refusal.ImpossibleMeter) × (impossible self.now ≡ true)) }
+    {
+        let rate = Rate::of(self.setting.code).ok_or(Refusal::ImpossibleMeter)?;
+        let list = &self.setting.thresholds;
+        if list.is_unloadable()
+            || setting::wrong_margin(self.setting.margin)
+            || possible::impossible_sums(&self.state.sums)
+            || possible::impossible_counters(&self.state, list.count, rate.i)
+        {
+            return Err(Refusal::ImpossibleMeter);
         }
-        Named::Nothing => Named::Nothing,
+        Ok(rate)
     }
 }

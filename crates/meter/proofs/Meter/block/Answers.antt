@@ -1,44 +1,24 @@
--- A part that is not empty is a sound block's.
-use mathlib.Core.List.{List}
-use mathlib.Core.Path.{sym, ap, ◌∙◌, subst}
-use Prim.Native.Nat.{ℕ, ◌<◌}
-use native.Mathlib.Nat.{pos_of_ne-zero}
+-- The samples that are counted are the block's.
+use mathlib.Core.Path.{refl, sym, ap, subst, ◌∙◌}
 use native.Mathlib.Omega.{arith}
-use lib.ListN.{length}
-use Rattle.block.specs.Refusals.{block_rules}
-use Rattle.block.proofs.Laws.{part_sound}
-use Rattle.rate.proofs.Laws.{named_code}
-use Rattle.refusal.specs.First.{first_of}
-use Rattle.refusal.proofs.Laws.{here}
+use lib.IntN.{pos}
+use lib.ListN.{length, replicate}
+use Rattle.std.proofs.lemmas.List.{length-take-le}
+use Rattle.block.proofs.Laws.{samples_length}
 use Rattle.meter.specs.Calls.{handed_by, block_call}
-use Rattle.meter.specs.Refusals.{impossible, block_call_rules}
-use Rattle.meter.proofs.Blocks.{by_part}
-use Rattle.meter.proofs.Handing.{refusal, usable_as, unusable_as}
+use Rattle.meter.specs.Inner.{Ready}
+use Rattle.meter.proofs.Blocks.{few, read}
 use Rattle.meter.proofs.Meter.block.Goals as goal
 
-pub returns-then-part-eq0 : goal.returns-then-part-eq0
-unfolding handed_by
-returns-then-part-eq0 c =
-    let s = c.args in
-    let u = usable_as _ _ _ c.rate.ensures c.in-As.is in
-    by_part s.self s.bytes.now u.possible_one _
-    (c.refused.ensures ∙ ap (λ (n : ℕ). first_of (block_rules s.bytes.now n)) (named_code _ _ u.rate_is))
-    (ap length (sym c.samples_part-part.ensures) ∙ c.if-part-eq0.true)
+pub slice_bounds-after-end : goal.slice_bounds-after-end
+slice_bounds-after-end c = sym (length-take-le _ c.decode.new.samples (omega (arith, few c.in-Ok.ensures.sound, c.decode.auto.samples)))
 
-pub follow-requires : goal.follow-requires
-follow-requires c =
-    let b = c.args.bytes.now in
-    let e = c.samples_part-part.ensures in
-    record {
-      usable = usable_as _ _ _ c.rate.ensures c.in-As.is;
-      fits = (part_sound b).0 (subst (λ (l : List ℕ). 0 < length l) e (pos_of_ne-zero c.if-part-eq0.false));
-      part_is = e;
-    }
+pub after-requires : goal.after-requires
+after-requires c =
+    let r = read c.in-Ok.ensures.sound c.decode.new.samples (replicate 248 (pos 0)) refl c.decode.ensures in
+    subst (Ready c.args.self c.in-Ok.rate) (sym (ap length r ∙ samples_length c.args.bytes.now)) c.in-Ok.ensures.ready
 
-pub returns-in-Nothing : goal.returns-in-Nothing
-unfolding block_call block_call_rules
-returns-in-Nothing c =
-    let s = c.args in
-    c.refused-in-Nothing.ensures
-    ∙ refusal 2 (block_call_rules s.self s.bytes.now) _ _ (omega arith)
-    (here 2 (impossible s.self) _ (unusable_as s.self _ c.rate.ensures c.in-Nothing.is))
+pub returns-in-Ok : goal.returns-in-Ok
+unfolding handed_by block_call
+returns-in-Ok c =
+    rw (c.after.ensures, read c.in-Ok.ensures.sound c.decode.new.samples (replicate 248 (pos 0)) refl c.decode.ensures, sym c.in-Ok.ensures.accepted)
