@@ -3,7 +3,7 @@
 use mathlib.Core.Bool.{true, false, cond}
 use mathlib.Core.List.{List, [], ◌∷◌}
 use mathlib.Core.Logic.{◌⊎◌}
-use mathlib.Core.Option.{some}
+use Rattle.std.specs.Prelude.{Some}
 use mathlib.Core.Path.{◌≡◌, refl, sym, ap, ◌∙◌, subst}
 use Prim.Native.Nat.{ℕ, zero, suc, ◌+◌, ◌*◌, ◌^◌, ◌≤◌, ◌<◌}
 use native.Mathlib.Nat.{le_antisymm, le_of_eq, lt_of_le_of_lt}
@@ -313,19 +313,19 @@ never_falls : lev 1 ≤ lev (2 ^ 80)
 never_falls = claim.facts.never_falls 1 (2 ^ 80) (lit≤ tt) (lit≤ tt) (lit≤ tt)
 
 module _ (m : Meter) (ok : impossible m ≡ false) where
-  of_n : 0 < m.state.sums.n.0 → level_of m.state.sums.n.0 ≡ some (pos (lev m.state.sums.n.0))
+  of_n : 0 < m.state.sums.n.0 → level_of m.state.sums.n.0 ≡ Some (pos (lev m.state.sums.n.0))
   of_n = (claim.levels_exist m ok).of_n
 
-  of_sq : 0 < two_words m.state.sums.sq → level_of (two_words m.state.sums.sq) ≡ some (pos (lev (two_words m.state.sums.sq)))
+  of_sq : 0 < two_words m.state.sums.sq → level_of (two_words m.state.sums.sq) ≡ Some (pos (lev (two_words m.state.sums.sq)))
   of_sq = (claim.levels_exist m ok).of_sq
 
-  of_a : (j : ℕ) → j < m.setting.thresholds.count → 0 < activity m.state.a j → level_of (activity m.state.a j) ≡ some (pos (lev (activity m.state.a j)))
+  of_a : (j : ℕ) → j < m.setting.thresholds.count → 0 < activity m.state.a j → level_of (activity m.state.a j) ≡ Some (pos (lev (activity m.state.a j)))
   of_a = (claim.levels_exist m ok).of_a
 
-  of_c : (j : ℕ) → j < m.setting.thresholds.count → level_of (threshold_of m.setting.thresholds j) ≡ some (pos (lev (threshold_of m.setting.thresholds j)))
+  of_c : (j : ℕ) → j < m.setting.thresholds.count → level_of (threshold_of m.setting.thresholds j) ≡ Some (pos (lev (threshold_of m.setting.thresholds j)))
   of_c = (claim.levels_exist m ok).of_c
 
-  of_t : level_of 10000 ≡ some (pos (lev 10000))
+  of_t : level_of 10000 ≡ Some (pos (lev 10000))
   of_t = (claim.levels_exist m ok).of_t 10000 (lit≤ tt) (lit≤ tt)
 
 -- the smoothing time, at any rate: at one code the checker would compute it, whatever the claim says; then I and D at the last

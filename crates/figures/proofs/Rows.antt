@@ -1,7 +1,7 @@
 -- The test of a row, and that a row whose test passes holds. A percentage is never searched for: its law tells it.
 use mathlib.Core.Bool.{Bool, true, not, ◌&&◌, and-eq-true_iff}
 use mathlib.Core.List.{List, [], ◌∷◌, ◌++◌}
-use mathlib.Core.Option.{none, some}
+use Rattle.std.specs.Prelude.{Some, None}
 use mathlib.Core.Path.{◌≡◌, refl, sym, ◌∙◌}
 use Prim.Native.Nat.{ℕ, zero, suc, ◌+◌, ◌-◌, ◌*◌, ◌^◌, ◌<◌}
 use native.Mathlib.Omega.{arith}
@@ -134,10 +134,10 @@ one_line d c c' calls calls' =
 -- the test of what a row says
 unfoldable pub test_of : (r : Row) → Test (Holds r)
 unfolding Holds
-test_of (rate code hertz K I D) = sameOption same_rate (rate_of code) (some (rate_with code hertz K I D))
+test_of (rate code hertz K I D) = sameOption same_rate (rate_of code) (Some (rate_with code hertz K I D))
 test_of (timed f K) = is (keeps_time f K)
-test_of (level N v) = sameOption same_integer (level_of N) (some (pos v))
-test_of (no_level N) = sameOption same_integer (level_of N) none
+test_of (level N v) = sameOption same_integer (level_of N) (Some (pos v))
+test_of (no_level N) = sameOption same_integer (level_of N) None
 test_of (percent F T) = percentage F T
 test_of (sampled c xs P Q a number) =
     let m = sampled_meter c xs in

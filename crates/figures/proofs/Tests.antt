@@ -1,7 +1,7 @@
 -- Tests that compute, each with what it shows where it passes.
 use mathlib.Core.Bool.{Bool, true, false, not, ◌&&◌, and-eq-true_iff, true≢false, false≢true}
 use mathlib.Core.List.{List, [], ◌∷◌}
-use mathlib.Core.Option.{Option, none, some}
+use Rattle.std.specs.Prelude.{Option, Some, None}
 use mathlib.Core.Path.{◌≡◌, refl}
 use Prim.Native.Nat.{ℕ, ◌≤◌}
 use lib.Dec.{eqb, leb}
@@ -82,7 +82,7 @@ module _ {A : Type 0} (same : Equality A) where
   same_list (x ∷ xs) (y ∷ ys) = itself ◌∷◌ on same x y on same_list xs ys
 
   abbrev pub sameOption : Equality (Option A)
-  sameOption none none = itself none
-  sameOption none (some y) = never
-  sameOption (some x) none = never
-  sameOption (some x) (some y) = itself some on same x y
+  sameOption None None = itself None
+  sameOption None (Some y) = never
+  sameOption (Some x) None = never
+  sameOption (Some x) (Some y) = itself Some on same x y

@@ -1,6 +1,5 @@
 -- Rows of worked figures, and what each kind of row says.
-use Rattle.std.specs.Prelude.{Bool, true, false, List, [], ◌∷◌, ◌≡◌, ℕ, ◌+◌, ◌-◌, ◌*◌, ◌^◌, ◌≤◌, ℤ, pos}
-use Rattle.std.proofs.Math.Option.{none, some}
+use Rattle.std.specs.Prelude.{Some, None, Bool, true, false, List, [], ◌∷◌, ◌≡◌, ℕ, ◌+◌, ◌-◌, ◌*◌, ◌^◌, ◌≤◌, ℤ, pos}
 use Rattle.level.specs.Logarithm.{level_of}
 use Rattle.rate.specs.Rates.{rate_of, row_of, keeps_time}
 use Rattle.block.specs.Refusals.{host_check}
@@ -177,10 +176,10 @@ in_places v =
     }
 
 unfoldable pub Holds : Row → Type 0
-Holds (rate code hertz K I D) = rate_of code ≡ some (record { code = code; hertz = hertz; k = K; i = I; d = D })
+Holds (rate code hertz K I D) = rate_of code ≡ Some (record { code = code; hertz = hertz; k = K; i = I; d = D })
 Holds (timed f K) = keeps_time f K ≡ true
-Holds (level N v) = level_of N ≡ some (pos v)
-Holds (no_level N) = level_of N ≡ none
+Holds (level N v) = level_of N ≡ Some (pos v)
+Holds (no_level N) = level_of N ≡ None
 Holds (percent F T) = percent_of F ≡ T
 Holds (sampled c xs P Q a number) =
     let m = sampled_meter c xs in
