@@ -1,4 +1,5 @@
-// The page on which lines wait for one write, what the system's errors mean, and what is said at once.
+// The page on which lines wait for one write, what is said on standard error, and what the system's errors
+// mean.
 #![tactic(auto)]
 
 mod errors;
@@ -8,5 +9,4 @@ mod tries;
 
 pub use errors::SystemError;
 pub use page::{Page, told};
-pub use sending::sent;
 pub use tries::Tries;

@@ -3,7 +3,8 @@
 // write into one pipe or one log. A longer line than a page comes in pieces: only the line that shows
 // a buffer of more than 513 bytes is put so. In `blocks` what waits are blocks, on a page of its own
 // size.
-use crate::{SystemError, sent};
+use crate::SystemError;
+use crate::sending::sent;
 use arrayvec::ArrayVec;
 use std::fmt;
 use std::fmt::{Display, Write};
