@@ -55,13 +55,11 @@ impl State {
         requires { Within by list (length xs.now) self }
         ensures { result ≡ state_after by list self xs.now }
     {
-        if xs.is_empty() {
+        let Some(&first) = xs.first() else {
             return self;
-        }
+        };
         let State { sums, a, h } = self;
-        // By its index: from `first` the inner loop keeps other values in registers, and takes two
-        // instructions more.
-        let mut moving = sums.begin().step(by, xs[0]);
+        let mut moving = sums.begin().step(by, first);
         let mut band = Band::lowest(&list).around(moving.q);
         let since = [0; PLACES];
         let mut counters = Counters {

@@ -1,5 +1,5 @@
 -- The first sample leads to the first band, each run to the next one; at the end the counters are settled.
-use Rattle.std.proofs.Common.{refl, ap₂, get_or, pos, w16, List, [], ◌∷◌, ◌≡◌, ◌∙◌, ℤ, length, rules, arith}
+use Rattle.std.proofs.Common.{refl, subst, ap₂, get_or, pos, w16, List, [], ◌∷◌, ◌≡◌, ◌∙◌, ℤ, length, rules, arith}
 use mir.Facts.{to_z-of_z}
 use mir.Val.{SFits}
 use Rattle.sample.specs.Inner.Steps.{moved}
@@ -17,19 +17,20 @@ unfolding state_after
 empty by t m [] e = refl
 empty by t m (x ∷ xs) e = absurd (omega (arith, e))
 
-pub returns-then-is_empty : goal.returns-then-is_empty
-returns-then-is_empty c = empty _ _ _ _ (search rules)
+pub returns-in_default : goal.returns-in_default
+returns-in_default c = empty _ _ _ _ (search rules)
 
 -- what the first sample left
 first : (c : After-lowest) → First c.args.by c.args.list c.args.self c.args.xs.now c.step-moving.result
 first c =
-    let fits : SFits w16 (get_or c.args.xs.now 0 (pos 0)) = record { sfits = search rules } in
+    let fits : SFits w16 c.in-Some.field-0.now = record { sfits = search rules } in
+    let head : c.in-Some.field-0.now ≡ get_or c.args.xs.now 0 (pos 0) = search rules in
     record {
       within = c.requires;
       some = search rules;
       offset_fits = record { sfits = search rules };
-      first_fits = fits;
-      is = c.step-moving.ensures ∙ ap₂ (moved c.args.by) c.begin.ensures (to_z-of_z {w = w16} fits);
+      first_fits = subst (SFits w16) head fits;
+      is = c.step-moving.ensures ∙ ap₂ (moved c.args.by) c.begin.ensures (to_z-of_z {w = w16} fits ∙ head);
     }
 
 pub around-band-requires : goal.around-band-requires
