@@ -12,6 +12,7 @@ use lib.IntN.{ℤ, nat_abs}
 use lib.ListN.{get_or, length}
 use mir.Syntax.{w16}
 use mir.Val.{SFits}
+use Rattle.std.proofs.lemmas.Int.{ints}
 use Rattle.level.specs.declared.Samples.{Samples}
 use Rattle.level.specs.Types.{samples_of, activity, two_words}
 use Rattle.thresholds.specs.declared.Thresholds.{Thresholds}
@@ -28,7 +29,6 @@ use Rattle.sample.proofs.Activity.{Under, under_step, counted_le, hung_le}
 use Rattle.sample.proofs.Envelope.{smooth_le}
 use Rattle.thresholds.proofs.Places.{each_at, up_to_at, up_to_past, filled_at}
 use Rattle.sample.proofs.Signs.{small, size_small}
-use Rattle.signed.proofs.Sizes.{abs_sum}
 use Rattle.exact.specs.Exact.{E, start_at, distance, reaches, count_next, hangover_next, take_one, take_all}
 use Rattle.exact.proofs.Envelope.{Follows, kept, follows_one, follows_first, then_exact, then_rounded}
 
@@ -167,7 +167,7 @@ module _ (T : Thresholds) (R : Rising T) (D : ℕ) (m : State) (e : E) (x : ℤ)
             (under_step e.I _ _ _ _ (leb (threshold_of T (j + 1)) Q) (leb (threshold_of T j) Q) (on_lower j l) (t.falls j l));
         a_past = λ j l g. no_count_lem T.count (count_of T e.I Q m) j l g;
         h_past = λ j l g. no_hangover T.count (hang_of T e.I Q m) j l g;
-        sum = omega (arith, abs_sum m.sums.s x, t.sum, sx);
+        sum = omega (arith, ints, t.sum, sx);
         squares = le_trans (le_of_eq (two_of_words _)) (more (two_words m.sums.sq) m.sums.n.0 (size e.o x * size e.o x) t.squares (mul-le-mul so so));
         p_max = held_p_max;
         q_max = smooth_le e.K (2 ^ 40) m.sums.q P kG t.q_max held_p_max;
