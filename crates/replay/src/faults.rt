@@ -1,65 +1,61 @@
-// What `replay` says where a run ends early.
-use crate::{Going, Run};
-use input::Streams;
+// How a run ends, and what `replay` says where it ends early.
+use crate::Player;
+use std::fmt;
+
+// Why no further record is played: no more can be read or written, or the record is bad.
+#[derive(Clone, Copy, Debug, PartialEq, Eq)]
+pub enum Stop {
+    Ended,
+    Bad(Fault),
+}
+
+// What is wrong with a bad record: no kind has its number, or the input ends inside it.
+#[derive(Clone, Copy, Debug, PartialEq, Eq)]
+pub enum Fault {
+    Unknown(u8),
+    Cut,
+}
+
+impl From<Fault> for Stop {
+    fn from(fault: Fault) -> Stop {
+        Stop::Bad(fault)
+    }
+}
+
+impl fmt::Display for Fault {
+    fn fmt<W: fmt::Write>(&self, f: &mut fmt::Formatter<W>) -> fmt::Result {
+        match self {
+            Fault::Unknown(number) => write!(f, "no record is of kind {number}"),
+            Fault::Cut => write!(f, "the input ends inside it"),
+        }
+    }
+}
 
 // A word on the command line.
 pub fn word<P: Print>(to: &P) {
     page::told(
         to,
-        b"replay takes no words: it reads records of calls from standard input, as crates/replay/src/main.rt has them, and prints a line for each\n",
+        "replay takes no words: it reads records of calls from standard input, as crates/replay/src/main.rt has them, and prints a line for each\n",
     );
 }
 
-// Writes what waits, and says why the run ends where the input has not ended between two records.
-pub fn ended(run: Run, k: u64, lines: &mut [u8]) {
-    let streams = run.streams;
-    let going = run.going;
-    match going {
-        Going::Unknown(kind) => {
-            unknown(streams, k, run.place, kind);
-            bad(streams, k, lines).closed(lines, b"replay");
+impl Player {
+    // Why the run stops where no more of a record comes. One that the input ends inside of is bad; one
+    // that could not be read is not judged.
+    pub fn cut(&self) -> Stop {
+        if self.streams.has_ended() {
+            Stop::Bad(Fault::Cut)
+        } else {
+            Stop::Ended
         }
-        Going::Cut => cut(streams, k, run.place, lines).closed(lines, b"replay"),
-        Going::On | Going::Ended => streams.closed(lines, b"replay"),
     }
-}
 
-// A record that the input ends inside of is bad; one that could not be read is not judged.
-fn cut(streams: Streams, k: u64, place: u64, lines: &mut [u8]) -> Streams {
-    let source = streams.source;
-    if source.has_ended() {
-        let mut line = [0u8; 128];
-        let used = began(&mut line, k, place);
-        let used = page::words(&mut line, used, b"the input ends inside it\n");
-        streams.told(page::filled(&line, used));
-        return bad(streams, k, lines);
+    // Writes what waits, and says what is wrong with the k-th record, where it is bad.
+    pub fn end(&mut self, k: u64, place: u64, stop: Stop) {
+        if let Stop::Bad(fault) = stop {
+            self.streams.told(format_args!("replay: record {k} at byte {place}: {fault}\n"));
+            self.streams.print(format_args!("bad record {k}\n"));
+        }
+        self.streams.closed("replay");
     }
-    streams
-}
-
-fn unknown(streams: Streams, k: u64, place: u64, kind: u8) {
-    let mut line = [0u8; 128];
-    let used = began(&mut line, k, place);
-    let used = page::words(&mut line, used, b"no record is of kind");
-    let used = page::spaced(&mut line, used, kind as u64);
-    let used = page::end_of_line(&mut line, used);
-    streams.told(page::filled(&line, used));
-}
-
-// A record's number and where it starts.
-fn began(line: &mut [u8], k: u64, place: u64) -> usize {
-    let used = page::words(line, 0, b"replay: record");
-    let used = page::spaced(line, used, k);
-    let used = page::words(line, used, b" at byte");
-    let used = page::spaced(line, used, place);
-    page::words(line, used, b": ")
-}
-
-// The line of a bad record.
-fn bad(streams: Streams, k: u64, lines: &mut [u8]) -> Streams {
-    let mut line = [0u8; 64];
-    let used = page::words(&mut line, 0, b"bad record");
-    let used = page::spaced(&mut line, used, k);
-    let used = page::end_of_line(&mut line, used);
-    streams.put(lines, page::filled(&line, used))
 }

@@ -28,163 +28,98 @@
 
 mod calls;
 mod faults;
-mod questions;
+mod fields;
 mod records;
 mod writing;
 
-use calls::Answer;
+use calls::Reply;
+use coding::Number;
+use faults::Stop;
+use fields::Fields;
 use input::Streams;
 use meter::Meter;
+use records::{Kind, Record};
 use setting::Setting;
-use writing::Wrote;
-
-// How a run goes on: with another record; not at all, since no more can be read or written; or not at
-// all, since a record is of no known kind or is cut short.
-#[derive(Clone, Copy)]
-pub enum Going {
-    On,
-    Ended,
-    Unknown(u8),
-    Cut,
-}
-
-// The meter after a record, what is read and written, where the record starts, and how the run goes on.
-#[derive(Clone, Copy)]
-pub struct Run {
-    pub meter: Meter,
-    pub streams: Streams,
-    pub place: u64,
-    pub going: Going,
-}
 
 fn main(rt: HostRuntime) {
     if input::has_word(rt, 1) {
         faults::word(&rt.stderr());
         return;
     }
-    let mut bytes = [0u8; 32768];
-    let mut samples = [0i16; 4097];
-    let mut line = [0u8; 2048];
-    let mut lines = [0u8; 4096];
-    played(rt, &mut bytes, &mut samples, &mut line, &mut lines);
+    Player::new(rt).play();
 }
 
-// Plays all records.
-fn played(
-    rt: HostRuntime,
-    bytes: &mut [u8],
-    samples: &mut [i16],
-    line: &mut [u8],
-    lines: &mut [u8],
-) {
-    let mut meter = Meter::open(Setting::usual(0)).meter;
-    let mut streams = Streams::new(rt);
-    let mut k: u64 = 1;
-    while k < u64::MAX {
-        let run = turn(meter, streams, bytes, samples, line, lines);
-        let going = run.going;
-        match going {
-            Going::On => {}
-            Going::Ended | Going::Unknown(_) | Going::Cut => {
-                faults::ended(run, k, lines);
-                return;
+// The meter, and what is read and written.
+#[derive(Drop)]
+pub struct Player {
+    meter: Meter,
+    streams: Streams<32768, 4096>,
+}
+
+impl Player {
+    fn new(rt: HostRuntime) -> Player {
+        Player {
+            meter: Meter::open(Setting::usual(0)).meter,
+            streams: Streams::new(rt),
+        }
+    }
+
+    // Plays all records.
+    fn play(&mut self) {
+        for k in 1..u64::MAX {
+            let place = self.streams.place();
+            if let Err(stop) = self.turn() {
+                return self.end(k, place, stop);
             }
         }
-        meter = run.meter;
-        streams = run.streams;
-        k += 1;
     }
-}
 
-// Reads a record and plays it, where it can be played.
-fn turn(
-    meter: Meter,
-    streams: Streams,
-    bytes: &mut [u8],
-    samples: &mut [i16],
-    line: &mut [u8],
-    lines: &mut [u8],
-) -> Run {
-    let begun = records::read(streams, bytes, lines);
-    answered(meter, begun, bytes, samples, line, lines)
-}
-
-// Plays the record ahead, where it can be played.
-fn answered(
-    meter: Meter,
-    streams: Streams,
-    bytes: &mut [u8],
-    samples: &mut [i16],
-    line: &mut [u8],
-    lines: &mut [u8],
-) -> Run {
-    let source = streams.source;
-    let going = records::judged(bytes, streams);
-    match going {
-        Going::On => whole(meter, streams, bytes, samples, line, lines),
-        Going::Ended | Going::Unknown(_) | Going::Cut => Run {
-            meter,
-            streams,
-            place: source.place(),
-            going,
-        },
-    }
-}
-
-// Plays the record ahead, of a known kind and read as far as it is kept.
-fn whole(
-    meter: Meter,
-    streams: Streams,
-    bytes: &mut [u8],
-    samples: &mut [i16],
-    line: &mut [u8],
-    lines: &mut [u8],
-) -> Run {
-    if records::is_write(records::ahead(bytes, streams)) {
-        let source = streams.source;
-        let wrote = writing::played(streams, bytes, samples, line, lines);
-        return ran(meter, wrote, source.place());
-    }
-    let answer = calls::answered(records::ahead(bytes, streams), meter, samples, line);
-    passed(answer, streams, bytes, line, lines)
-}
-
-// The run after a record that makes a block, which leaves the meter alone.
-fn ran(meter: Meter, wrote: Wrote, place: u64) -> Run {
-    let streams = wrote.streams;
-    Run {
-        meter,
-        streams,
-        place,
-        going: if wrote.whole { Going::On } else { Going::Cut },
-    }
-}
-
-// Reads through the rest of the record that is answered, and puts its line on the page where all of the
-// record came.
-fn passed(
-    answer: Answer,
-    streams: Streams,
-    bytes: &mut [u8],
-    line: &[u8],
-    lines: &mut [u8],
-) -> Run {
-    let meter = answer.meter;
-    let source = streams.source;
-    let passed = records::passed(streams, bytes, lines);
-    let begun = passed.streams;
-    if 0 < passed.left {
-        return Run {
-            meter,
-            streams: begun,
-            place: source.place(),
-            going: Going::Cut,
+    // Reads a record, plays it, and prints its line where all of the record came.
+    fn turn(&mut self) -> Result<(), Stop> {
+        let record = self.read()?;
+        let fields = Fields::of(self.streams.ahead(record.kept));
+        let meter = &mut self.meter;
+        let reply = match record.kind {
+            Kind::Open => calls::open(fields, meter),
+            Kind::Chunk => calls::chunk(fields, meter),
+            Kind::Block => calls::block(fields, meter),
+            Kind::Report => calls::report(meter),
+            Kind::Load => calls::load(fields, meter),
+            Kind::Show => Reply::Meter(*meter),
+            Kind::Lev => calls::lev(fields),
+            Kind::Check => calls::check(fields),
+            Kind::Write => return self.write(record),
         };
+        self.pass(record)?;
+        self.streams.print(reply);
+        Ok(())
     }
-    Run {
-        meter,
-        streams: begun.put(lines, page::filled(line, answer.used)),
-        place: source.place(),
-        going: Going::On,
+
+    // Reads the next record as far as it is kept.
+    fn read(&mut self) -> Result<Record, Stop> {
+        self.streams.ready(1);
+        if !self.streams.is_well() || self.streams.unused() == 0 {
+            return Err(Stop::Ended);
+        }
+        let kind = Kind::try_from(u8::read(self.streams.ahead(1), 0))?;
+        self.streams.ready(kind.head());
+        let record = Record::of(kind, self.streams.ahead(kind.head()));
+        self.streams.ready(record.kept);
+        if !self.streams.is_well() {
+            return Err(Stop::Ended);
+        }
+        if self.streams.unused() < record.kept {
+            return Err(self.cut());
+        }
+        Ok(record)
+    }
+
+    // Reads through a record, those of its bytes that are not kept among them.
+    fn pass(&mut self, record: Record) -> Result<(), Stop> {
+        self.streams.skip(record.kept);
+        if 0 < self.streams.pass(record.rest) {
+            return Err(self.cut());
+        }
+        Ok(())
     }
 }

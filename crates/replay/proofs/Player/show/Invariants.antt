@@ -1,5 +1,5 @@
 -- The bytes left to show fall.
-use Rattle.replay.proofs.writing.shown.Given as goal
+use Rattle.replay.proofs.Player.show.Given as goal
 
 abbrev pub decreases-loop-left : goal.decreases-loop-left
 decreases-loop-left l = l.left
