@@ -7,76 +7,53 @@
 
 ghost use Rattle.std.specs.Prelude.{◌<◌};
 
+use coding::Number;
 use input::Streams;
 use meter::Meter;
+use print::MeterLine;
 use setting::Setting;
 
 fn main(rt: HostRuntime) {
-    let mut bytes = [0u8; 65543];
-    let mut lines = [0u8; 4096];
-    let streams = Streams::new(rt).ready(&mut bytes, &mut lines, 65543);
-    let source = streams.source;
-    let mut line = [0u8; 4096];
-    let used = print::meter(&mut line, 0, measured(input::ahead(&bytes, source, 65543)));
-    streams
-        .put(&mut lines, page::filled(&line, used))
-        .closed(&lines, b"bench");
+    let mut streams = Streams::<65543, 4096>::new(rt);
+    streams.ready(65543);
+    let meter = measured(streams.ahead(65543));
+    streams.print(MeterLine(&meter));
+    streams.closed("bench");
 }
 
 // The meter after an input.
 fn measured(held: &[u8]) -> Meter {
-    if held.len() < 7 {
+    let Some((head, part)) = held.split_at_checked(7) else {
         return Meter::open(Setting::usual(0)).meter;
-    }
-    let mut offset = [0i16; 1];
-    coding::decode(&held[5..7], &mut offset);
-    let part = &held[7..];
-    let mut samples = [0i16; 32768];
+    };
+    let mut samples = [0; 32768];
     coding::decode(part, &mut samples);
-    let count = coding::least(part.len() / 2, 32768);
-    let mut chosen = Setting::usual(coding::one_byte(held, 0) as u32);
-    chosen.offset = offset[0];
-    repeated(
-        Meter::open(chosen).meter,
-        coding::two_bytes(held, 1),
-        chunk_length(held),
-        &samples[0..count],
-    )
-}
-
-// The length of a chunk.
-fn chunk_length(held: &[u8]) -> usize
-    ensures { 0 < result }
-{
-    let length = coding::two_bytes(held, 3) as usize;
-    if length == 0 {
-        return 4096;
-    }
-    length
-}
-
-// The meter after samples, so many times over, in chunks of a length.
-fn repeated(meter: Meter, rounds: u16, chunk: usize, samples: &[i16]) -> Meter
-    requires { 0 < chunk }
-{
-    let mut meter = meter;
-    let mut left = rounds;
-    while 0 < left {
-        meter = once(meter, chunk, samples);
-        left -= 1;
+    let count = samples.len().min(part.len() / 2);
+    let setting = Setting {
+        offset: u16::read(head, 5).cast_signed(),
+        ..Setting::usual(u8::read(head, 0) as u32)
+    };
+    let rounds = u16::read(head, 1);
+    let chunk = match u16::read(head, 3) {
+        0 => 4096,
+        length => length as usize,
+    };
+    let mut meter = Meter::open(setting).meter;
+    for _ in 0..rounds {
+        meter = once(meter, chunk, &samples[..count]);
     }
     meter
 }
 
 // The meter after samples once, in chunks of a length and one of the rest.
-fn once(meter: Meter, chunk: usize, samples: &[i16]) -> Meter
-    requires { 0 < chunk }
+fn once(meter: Meter, length: usize, samples: &[i16]) -> Meter
+    requires { 0 < length }
 {
     let mut meter = meter;
-    let mut from = 0;
-    while chunk <= samples.len() - from {
-        meter = meter.chunk(&samples[from..from + chunk]).meter;
-        from += chunk;
+    let chunks = samples.chunks_exact(length);
+    let rest = chunks.remainder();
+    for chunk in chunks {
+        meter = meter.chunk(chunk).meter;
     }
-    meter.chunk(&samples[from..]).meter
+    meter.chunk(rest).meter
 }
