@@ -33,9 +33,6 @@ pub record Sound (b : List ℕ) : Type 0 where
   pub unused_ok : used_unused b ≡ false
   pub named : is_named (rate_code b) ≡ true
 
-no : (x : Bool) → not x ≡ true → x ≡ false
-no x h = not-true x h
-
 pub sound_is : (b : List ℕ) → sound b ≡ true → Sound b
 unfolding sound
 sound_is b h =
@@ -45,11 +42,11 @@ sound_is b h =
     let h2 = both _ _ h3.0 in
     let h1 = both _ _ h2.0 in
     record {
-      length_ok = no _ h1.0;
-      check_ok = no _ h1.1;
-      kind_ok = no _ h2.1;
-      count_ok = no _ h3.1;
-      unused_ok = no _ h4.1;
+      length_ok = not-true _ h1.0;
+      check_ok = not-true _ h1.1;
+      kind_ok = not-true _ h2.1;
+      count_ok = not-true _ h3.1;
+      unused_ok = not-true _ h4.1;
       named = h5.1;
     }
 

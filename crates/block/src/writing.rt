@@ -5,7 +5,8 @@ ghost use Rattle.coding.specs.Numbers.{bytes_of};
 ghost use Rattle.block.specs.Block.{check_sum, weighted_sum};
 ghost use Rattle.block.specs.Written.{block_of, unwritable, written_by, write_call};
 
-use crate::{checks, fields};
+use crate::checks::CheckWords;
+use crate::fields;
 use level::MOST_SAMPLES;
 use refusal::Refusal;
 
@@ -60,7 +61,7 @@ fn head(code: u32, before: u64, count: usize, buffer: &mut [u8])
 fn seal(block: &mut [u8; 512])
     ensures { block.new ≡ sets block.old 508 (bytes_of 2 (check_sum block.old) ++ bytes_of 2 (weighted_sum block.old)) }
 {
-    let words = checks::check_words(block);
+    let words = CheckWords::of(block);
     coding::put_number(block, 508, 2, words.sum.into());
     coding::put_number(block, 510, 2, words.weighted.into());
 }

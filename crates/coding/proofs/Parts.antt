@@ -1,21 +1,16 @@
 -- Bytes into a buffer, one part after another, and the loops that put them there, a turn each.
-use mathlib.Core.Bool.{Bool, cond}
 use mathlib.Core.List.{List, [], ◌∷◌, ◌++◌, append-nil, append_assoc}
 use mathlib.Core.Path.{◌≡◌, refl, sym, ap, ap₂, ◌∙◌}
-use Prim.Native.Nat.{ℕ, suc, ◌+◌, ◌-◌, ◌/◌, ◌%◌, ◌≤◌, ◌<◌, min}
+use Prim.Native.Nat.{ℕ, suc, ◌+◌, ◌-◌, ◌*◌, ◌/◌, ◌%◌, ◌≤◌, ◌<◌, min}
 use native.Mathlib.Nat.{add-zero}
 use native.Mathlib.Numerals.{add-one}
 use native.Mathlib.Omega.{arith}
-use lib.IntN.{ℤ}
-use lib.ListN.{length, take, drop, set, replicate, length-take, length-drop, drop_of_length-le}
-use lib.Seq.{sets, sets-eq, set_out, length-sets}
+use lib.IntN.{ℤ, pos}
+use lib.ListN.{length, get_or, take, drop, set, replicate, length-take, length-drop, drop_of_length-le}
+use lib.Seq.{sets, sets-eq, set_out, length-sets, drop-cons}
 use borrow.Rule.Slice.PartMut.{put_mid}
-use Rattle.std.proofs.iter.Yields.{nat_range_steps}
-use Rattle.std.specs.declared.iter.StepBy.{StepBy}
-use Rattle.std.specs.declared.ops.Range.{Range}
-use Rattle.std.specs.Iterator.{Yields}
-use Rattle.std.specs.Iterator.Adapters.{step_by_steps}
-use Rattle.std.proofs.Common.{Some, None}
+use Rattle.std.proofs.Common.{⊎_elim}
+use Rattle.std.proofs.lemmas.Bool.{cases_lt}
 use Rattle.std.proofs.lemmas.List.Edits.{paste_all}
 use Rattle.std.proofs.lemmas.List.{length-replicate, replicate-append-replicate}
 use Rattle.std.proofs.lemmas.Slice.{put_mid-paste}
@@ -47,6 +42,10 @@ pub left_off : (l vs : List ℕ) (at end : ℕ) → length vs ≡ end - at → m
 left_off l [] at end e h = refl
 left_off l (v ∷ vs) at end e h = sets_out l (v ∷ vs) at (omega arith)
 
+-- so a place past the end may be taken for another
+topped : (l vs : List ℕ) (place top : ℕ) → length l ≤ top → sets l (min place top) vs ≡ sets l place vs
+topped l vs place top h = ⊎_elim (λ p. ap (λ (k : ℕ). sets l k vs) (omega arith)) (λ p. sets_out l vs (min place top) (omega arith) ∙ sym (sets_out l vs place (omega arith))) (cases_lt place top)
+
 -- ---- a number: what is left of it, from the place that is reached
 
 pub number_turn : (l : List ℕ) (place end rest : ℕ) → place < end
@@ -66,7 +65,18 @@ number_end l place end rest h = left_off l (bytes_of (end - place) rest) place e
 pub zeros_end : (l : List ℕ) (at end : ℕ) → min end (length l) ≤ at → l ≡ sets l at (replicate (end - at) 0)
 zeros_end l at end h = sym (left_off l (replicate (end - at) 0) at end (length-replicate (end - at) 0) h)
 
--- those that find room, up to the place `last`
+-- those up to the end of the buffer are all that are put down
+zeros_more : (l : List ℕ) (at k end : ℕ) → at + k ≤ end → min end (length l) ≤ at + k → sets l at (replicate k 0) ≡ sets l at (replicate (end - at) 0)
+zeros_more l at k end h m =
+    let front : List ℕ = replicate k 0 in
+    let rest = end - (at + k) in
+    let whole : k + rest ≡ end - at = omega arith in
+    zeros_end (sets l at front) (at + k) end (omega (arith, length-sets l at front))
+    ∙ ap (λ (n : ℕ). sets (sets l at front) (at + n) (replicate rest 0)) (sym (length-replicate k 0))
+    ∙ sets_append l at front (replicate rest 0)
+    ∙ ap (λ (zs : List ℕ). sets l at zs) (replicate-append-replicate k rest 0 ∙ ap (λ (n : ℕ). replicate n 0) whole)
+
+-- so those that the library fills in, up to the place `last`
 pub zeros_front : (l ws : List ℕ) (at end last : ℕ) → last ≡ min end (length l) → at < last
     → ws ≡ replicate (length (take (last - at) (drop at l))) 0 → put_mid at (last - at) l ws ≡ sets l at (replicate (end - at) 0)
 zeros_front l ws at end last e h f =
@@ -74,52 +84,24 @@ zeros_front l ws at end last e h f =
     let front : List ℕ = replicate k 0 in
     let long : length front ≡ k = length-replicate k 0 in
     let room : length (take k (drop at l)) ≡ k = length-take k (drop at l) ∙ omega (arith, length-drop at l) in
-    let rest = end - (at + length front) in
-    let whole : k + rest ≡ end - at = omega arith in
-    let zeros : front ++ replicate rest 0 ≡ replicate (end - at) 0 = replicate-append-replicate k rest 0 ∙ ap (λ (n : ℕ). replicate n 0) whole in
     put_mid-paste at k l ws front k (f ∙ ap (λ (n : ℕ). replicate n 0) room) refl (sym long)
     ∙ paste_all l at front k (sym long)
     ∙ sym (append_assoc (take at l) front (drop (at + k) l))
-    ∙ sym (sets-eq front l at (omega arith) ∙ ap (λ (n : ℕ). take at l ++ front ++ drop (at + n) l) long)
-    ∙ zeros_end (sets l at front) (at + length front) end (omega (arith, length-sets l at front))
-    ∙ sets_append l at front (replicate rest 0)
-    ∙ ap (sets l at) {x = front ++ replicate rest 0} {y = replicate (end - at) 0} zeros
+    ∙ ap (λ (n : ℕ). take at l ++ front ++ drop (at + n) l) (sym long)
+    ∙ sym (sets-eq front l at (omega arith))
+    ∙ zeros_more l at k end (omega arith) (omega arith)
 
--- ---- samples
+-- ---- samples: what is left of them, from the place of the next, which is at most `top`
 
-pub samples_turn : (l : List ℕ) (x : ℤ) (xs : List ℤ) (place : ℕ)
-    → sets (sets l place (bytes_of 2 (word_of x))) (place + 2) (bytes_of_samples xs) ≡ sets l place (bytes_of_samples (x ∷ xs))
+pub samples_turn : (l : List ℕ) (xs : List ℤ) (at j top : ℕ) → j < length xs → length l ≤ top
+    → sets (sets l (min (at + 2 * j) top) (bytes_of 2 (word_of (get_or xs j (pos 0))))) (at + 2 * (j + 1)) (bytes_of_samples (drop (j + 1) xs))
+    ≡ sets l (at + 2 * j) (bytes_of_samples (drop j xs))
 unfolding bytes_of_samples
-samples_turn l x xs place =
-    let w = bytes_of 2 (word_of x) in
-    ap (λ (k : ℕ). sets (sets l place w) k (bytes_of_samples xs)) (ap (λ (k : ℕ). place + k) (sym (bytes_length 2 (word_of x))))
-    ∙ sets_append l place w (bytes_of_samples xs)
-
--- every second place of a range
-
-counted : (xs : List ℕ) (s t : Range ℕ) → Yields nat_range_steps s xs t → (t.end ≡ s.end) × (t.start ≡ s.start + length xs)
-counted [] s t y = (ap (λ (r : Range ℕ). r.end) (sym y), ap (λ (r : Range ℕ). r.start) (sym y) ∙ sym (add-zero s.start))
-counted (x ∷ xs) s t (j, e, y) = let r = counted xs j t y in (r.0 ∙ e.0, omega (arith, r.1, e.1.2))
-
--- the place that comes next
-abbrev pub next_place : StepBy (Range ℕ) → ℕ
-next_place s = s.iter.start + cond s.first 0 1
-
-pub place_turn : (s t : StepBy (Range ℕ)) (place : ℕ) → s.gap ≡ 1 → step_by_steps nat_range_steps s (Some place) t
-    → (t.gap ≡ 1) × (t.iter.end ≡ s.iter.end) × (place ≡ next_place s) × (place + 2 ≡ next_place t)
-place_turn s t place g (gap, first, (n, xs, e, (u, y, step), long)) =
-    let r = counted xs s.iter u y in
-    let skipped : length xs ≡ cond s.first 0 1 = long ∙ e ∙ ap (cond s.first 0) g in
-    let behind : next_place t ≡ t.iter.start + 1 = ap (λ (b : Bool). t.iter.start + cond b 0 1) first in
-    (gap ∙ g, step.0 ∙ r.0, omega (arith, r.1, step.1.1), omega (arith, step.1.1, step.1.2))
-
-pub no_place : (s t : StepBy (Range ℕ)) → s.gap ≡ 1 → step_by_steps nat_range_steps s None t → s.iter.end ≤ next_place s
-no_place s t g (gap, first, (n, xs, e, (u, y, step), long)) =
-    let r = counted xs s.iter u y in
-    let skipped : n ≡ cond s.first 0 1 = e ∙ ap (cond s.first 0) g in
-    omega (arith, r.0, r.1, step.1.0)
-
-pub no_samples : (l : List ℕ) (xs : List ℤ) (place : ℕ) → length xs ≡ 0 → sets l place (bytes_of_samples xs) ≡ l
-unfolding bytes_of_samples
-no_samples l [] place e = refl
-no_samples l (x ∷ xs) place e = absurd (omega arith)
+samples_turn l xs at j top h t =
+    let w = bytes_of 2 (word_of (get_or xs j (pos 0))) in
+    let rest = bytes_of_samples (drop (suc j) xs) in
+    let next : at + 2 * (j + 1) ≡ at + 2 * j + length w = omega (arith, bytes_length 2 (word_of (get_or xs j (pos 0)))) in
+    ap₂ (λ (b : List ℕ) (k : ℕ). sets b k (bytes_of_samples (drop (j + 1) xs))) (topped l w (at + 2 * j) top t) next
+    ∙ ap (λ (k : ℕ). sets (sets l (at + 2 * j) w) (at + 2 * j + length w) (bytes_of_samples (drop k xs))) (add-one j)
+    ∙ sets_append l (at + 2 * j) w rest
+    ∙ ap (λ (ys : List ℤ). sets l (at + 2 * j) (bytes_of_samples ys)) (sym (drop-cons xs j (pos 0) h))

@@ -21,7 +21,8 @@ pub fn put_number(buffer: &mut [u8], at: usize, size: usize, x: u64)
 pub fn put_samples(buffer: &mut [u8], at: usize, samples: &[i16])
     ensures { buffer.new ≡ sets buffer.old at (bytes_of_samples samples.now) }
 {
-    for (place, sample) in (at..buffer.len()).step_by(2).zip(samples) {
+    for (j, sample) in samples.iter().enumerate() {
+        let place = at.saturating_add(2 * j);
         put_number(buffer, place, 2, sample.cast_unsigned().into());
     }
 }

@@ -1,7 +1,7 @@
 -- The invariant: each sum is the definition's over the words so far, and small.
 use Rattle.std.proofs.Common.{◌≡◌, ◌-◌, ◌*◌, ◌≤◌}
 use Rattle.block.specs.Block.{word, sum_below}
-use Rattle.block.proofs.checks.check_words.Given as goal
+use Rattle.block.proofs.checks.CheckWords.of.Given as goal
 
 abbrev pub invariant-loop-i : goal.invariant-loop-i
 invariant-loop-i l =
