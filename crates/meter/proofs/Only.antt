@@ -1,13 +1,17 @@
 -- Nothing is left to choice: a report that METHOD.md allows on a meter is the one that is given, and an untouched meter of a setting is one meter.
-use mathlib.Core.Bool.{Bool, true, false, false≢true}
+use mathlib.Core.Bool.{true, false}
 use Rattle.std.specs.Prelude.{Option, Some, None}
+use mathlib.Core.Logic.{⊎_elim}
 use mathlib.Core.Path.{◌≡◌, refl, sym, ap, ◌∙◌}
 use Prim.Native.Nat.{ℕ, ◌<◌}
+use native.Mathlib.Nat.{le_antisymm}
 use native.Mathlib.Omega.{arith}
-use borrow.Author.Tests.{eq-eqb, ne_eqb, ltb-true, ltb-false, le-ltb}
-use lib.Dec.{eqb, ltb}
-use lib.IntN.{ℤ, pos, negsuc, ◌-ℤ◌}
+use borrow.Author.Tests.{eq-eqb, ne_eqb}
+use lib.Dec.{eqb}
+use lib.IntN.{ℤ, pos, ◌-ℤ◌}
 use lib.Signed.{lt_z}
+use Rattle.std.proofs.lemmas.Bool.{cases_lt}
+use Rattle.std.proofs.lemmas.Int.{ints}
 use Rattle.level.specs.Types.{samples_of, hundredths_of, steps_of, two_words}
 use Rattle.crossing.specs.Searched.{first_excess}
 use Rattle.crossing.proofs.Bounds.{alive}
@@ -84,12 +88,9 @@ report_once {m} {j} {r} {r'} z z' =
 
 -- the crossing that is used is one
 used_once : {m : Meter} {i j : ℕ} → Used m i → Used m j → i ≡ j
-used_once {m} {i} {j} u u' = go (ltb i j) refl (ltb j i) refl
-  where
-    go : (s : Bool) → ltb i j ≡ s → (t : Bool) → ltb j i ≡ t → i ≡ j
-    go true h t k = absurd (u.none_higher j (ltb-true i j h) u'.crossing)
-    go false h true k = absurd (u'.none_higher i (ltb-true j i k) u.crossing)
-    go false h false k = omega (arith, ltb-false i j h, ltb-false j i k)
+used_once {m} {i} {j} u u' =
+    ⊎_elim (λ l. absurd (u.none_higher j l u'.crossing))
+    (λ l. ⊎_elim (λ k. absurd (u'.none_higher i k u.crossing)) (λ k. le_antisymm k l) (cases_lt j i)) (cases_lt i j)
 
 not_zero : (n : ℕ) → 0 < n → eqb n 0 ≡ false
 not_zero n h = ne_eqb n 0 (λ e. omega arith)
@@ -136,8 +137,7 @@ module _ (m : Meter) (ok : impossible m ≡ false) where
   only (when_level_above r z a x d) = refused 16 r (at_16 m (tested a) (none_found a x) (not_both (first_of_meter m) d)) z
     where
       not_both : (x : ℤ) → lt_z (pos 0) x ≡ true → lt_z x (pos 0) ≡ false
-      not_both (pos n) h = le-ltb n 0 (omega arith)
-      not_both (negsuc n) h = absurd (false≢true h)
+      not_both x h = grind (arith, ints)
   only (levels r j n s u at) =
       let a = active n s j u in
       let e = at_0 m (tested a) j (found a j u) in

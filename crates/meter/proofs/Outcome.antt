@@ -4,13 +4,14 @@ use mathlib.Core.Bool.{Bool, true, false, cond, ◌&&◌, true≢false}
 use mathlib.Core.List.{List, [], ◌∷◌}
 use Rattle.std.specs.Prelude.{Option, Some, None, is_none}
 use mathlib.Core.Path.{◌≡◌, refl, sym, ap, ◌∙◌, subst}
-use Prim.Native.Nat.{ℕ, zero, suc, ◌<◌}
+use Prim.Native.Nat.{ℕ, ◌<◌}
 use native.Mathlib.Nat.{pos_of_ne-zero}
 use native.Mathlib.Omega.{arith}
-use borrow.Author.Tests.{eqb-true, eqb-false, ne_eqb, lt-ltb, ltb-false}
+use borrow.Author.Tests.{eqb-true, eqb-false, ne_eqb, lt-ltb}
 use lib.Dec.{T, eqb}
-use lib.IntN.{ℤ, pos, negsuc}
+use lib.IntN.{ℤ, pos}
 use lib.Signed.{lt_z}
+use Rattle.std.proofs.lemmas.Int.{ints}
 use Rattle.level.specs.declared.Samples.{Samples}
 use Rattle.thresholds.specs.declared.Thresholds.{Thresholds}
 use Rattle.level.specs.Types.{activity, two_words, words}
@@ -35,14 +36,11 @@ use Rattle.meter.specs.Reports.{margin_of, list_of, crossing_of, first_of_meter,
 pub no_report_lem : (k : ℕ) (m : Meter) → 0 < k → k ≡ first_of (report_rules m) → refused_report k m ≡ report_call m
 unfolding refused_report report_call
 no_report_lem k m l e =
-    subst (λ (r : ℕ). refused_report k m ≡ record { number = r; meter = m; report = cond (eqb r 0) (report_for m (crossing_of m)) no_report }) e
-    (sym (simp (ne_eqb k 0 (λ z. let h : 0 < 0 = subst (λ (n : ℕ). 0 < n) z l in absurd (omega arith)))))
+    rw (sym e, ne_eqb k 0 (λ z. omega arith))
 
 -- with a_0 above 0 and d_0 neither below nor above 0, there is a crossing at 0
 signs : (d : ℤ) → lt_z d (pos 0) ≡ false → lt_z (pos 0) d ≡ false → is_zero d ≡ true
-signs (pos zero) p q = refl
-signs (pos (suc n)) p q = absurd (omega (arith, ltb-false 0 (suc n) q))
-signs (negsuc n) p q = absurd (subst T p tt)
+signs d p q = grind (arith, ints)
 
 first_crosses : (M S : ℤ) (T : Thresholds) (a : List Samples) → 0 < activity a 0 → is_zero (excess M S T a 0) ≡ true → is_crossing M S T a 0 ≡ true
 unfolding is_crossing
