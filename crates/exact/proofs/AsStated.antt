@@ -5,8 +5,9 @@ use mathlib.Core.List.{List, [], ◌∷◌}
 use mathlib.Core.Path.{◌≡◌, refl, sym, ap, ap₂, subst, ◌∙◌}
 use Prim.Native.Nat.{ℕ, ◌+◌, ◌-◌, ◌*◌, ◌^◌, ◌≤◌, ◌<◌}
 use native.Mathlib.Nat.{le_antisymm, le_of_eq, le_of_mul-le-mul_right, mul-one, mul-pos}
+use native.Mathlib.Nat.{lt_of_not-le}
 use native.Mathlib.Omega.{arith}
-use borrow.Author.Tests.{leb-true, le-leb, ltb-true, ltb-false, lt-ltb, le-ltb}
+use borrow.Author.Tests.{lt-leb, leb-true, le-leb, ltb-true, ltb-false, lt-ltb, le-ltb}
 use lib.Dec.{leb, ltb, lit<}
 use lib.IntN.{ℤ}
 use Rattle.setting.specs.declared.Setting.{Setting}
@@ -29,11 +30,7 @@ q_same : (n R p K U G : ℕ) → (n * R + p * K) * (U * U * G) ≡ (n * R * U + 
 q_same n R p K U G = omega arith
 
 not_at_most : (a b : ℕ) → (a ≤ b → ⊥) → leb a b ≡ false
-not_at_most a b n = go (leb a b) refl
-  where
-    go : (t : Bool) → leb a b ≡ t → t ≡ false
-    go true e = absurd (n (leb-true a b e))
-    go false e = refl
+not_at_most a b n = lt-leb a b (lt_of_not-le n)
 
 -- at a threshold: the test and the two cases of a hangover
 counted : (e : E) (x : ℤ) (t : ℕ) → CountedAt e (take_one e x) t

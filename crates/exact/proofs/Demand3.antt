@@ -1,12 +1,12 @@
 -- Demand 3: `demand3`. After any list of calls the meter and E are tied, and each clause reads one part of the tie; the report is METHOD.md's by
 -- `answered`, and the level clauses are the bounds of any crossing, with the counts' orders put in.
-use mathlib.Core.Bool.{Bool, true, false, cond, false≢true}
+use mathlib.Core.Bool.{Bool, true, false, cond}
 use mathlib.Core.List.{List, [], ◌∷◌}
 use mathlib.Core.Path.{◌≡◌, refl, sym, ap, ◌∙◌, subst, subst₂}
 use Prim.Native.Nat.{ℕ, ◌+◌, ◌*◌, ◌≤◌, ◌<◌}
 use native.Mathlib.Omega.{arith}
-use borrow.Author.Tests.{lt-ltb, ltb-true, leb-true}
-use lib.IntN.{ℤ, pos, negsuc, ◌+ℤ◌}
+use lib.IntN.{ℤ, pos, ◌+ℤ◌}
+use Rattle.std.proofs.lemmas.Int.{ints}
 use lib.Signed.{lt_z, le_z}
 use Rattle.level.specs.Types.{activity, two_words}
 use Rattle.thresholds.specs.declared.Thresholds.{Thresholds}
@@ -82,9 +82,7 @@ module _ (m : Meter) (e : E) (g : Good m e) (r : Report) (L : Levels m r) where
       more (8192 * i) (margin_of m) _ (margin_range (margin_of m) g.margin).above_zero (ap (λ (z : ℤ). le_z (z +ℤ margin_of m) r.levels.active.0) (sym C) ∙ over)
     where
       more : (c : ℕ) (M A : ℤ) → lt_z (pos 0) M ≡ true → le_z (pos c +ℤ M) A ≡ true → lt_z (pos 0) A ≡ true
-      more c (pos n) (pos a) h k = lt-ltb 0 a (omega (arith, ltb-true 0 n h, leb-true (c + n) a k))
-      more c (pos n) (negsuc a) h k = absurd (false≢true k)
-      more c (negsuc n) A h k = absurd (false≢true h)
+      more c M A h k = grind (arith, ints)
 
   pub level_bounds : LevelBounds T (margin_of m) r e (row_of e.code).d
   level_bounds =

@@ -4,14 +4,15 @@ use mathlib.Core.Bool.{true, false, cond}
 use mathlib.Core.List.{List, [], ◌∷◌}
 use mathlib.Core.Logic.{◌⊎◌}
 use Rattle.std.specs.Prelude.{Some}
-use mathlib.Core.Path.{◌≡◌, refl, sym, ap, ◌∙◌, subst}
+use mathlib.Core.Path.{◌≡◌, refl, sym, ap, ◌∙◌}
 use Prim.Native.Nat.{ℕ, zero, suc, ◌+◌, ◌*◌, ◌^◌, ◌≤◌, ◌<◌}
 use native.Mathlib.Nat.{le_antisymm, le_of_eq, lt_of_le_of_lt}
 use native.Mathlib.Omega.{arith}
-use borrow.Author.Tests.{ne_eqb, le-leb}
+use borrow.Author.Tests.{ne_eqb}
 use lib.Dec.{eqb, lit<, lit≤}
 use lib.IntN.{ℤ, pos, negsuc, ◌+ℤ◌}
 use lib.ListN.{length, get_or}
+use Rattle.std.proofs.lemmas.Int.{ints}
 use lib.Signed.{lt_z, le_z}
 use mir.Syntax.{w16}
 use mir.Val.{SFits}
@@ -213,12 +214,8 @@ same_percent : (m m' : Meter) → (report_call m).number ≡ 0 → (report_call 
 same_percent m m' z z' e =
     le_antisymm (claim.demand2.percent_never_falls m m' z z' (at_most e)) (claim.demand2.percent_never_falls m' m z' z (at_most (sym e)))
   where
-    itself : (F : ℤ) → le_z F F ≡ true
-    itself (pos n) = le-leb n n (omega arith)
-    itself (negsuc n) = le-leb n n (omega arith)
-
     at_most : {F G : ℤ} → F ≡ G → le_z F G ≡ true
-    at_most {F} e = subst (λ (G : ℤ). le_z F G ≡ true) e (itself F)
+    at_most e = grind (arith, ints)
 
 taken : (m : Meter) (b : List ℕ) → NoneApplies (block_call_rules m b) → (block_call m b).number ≡ 0
 taken m b n = (claim.demand2.block_taken m b).1 n

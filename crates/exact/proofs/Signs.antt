@@ -1,9 +1,10 @@
 -- What the level clauses say at each sign of A, with no power of two but whole ones: document 01's own form where A is not below 0, and where it is, each
 -- power on the side to which its exponent takes it. The exponents are A + 2 and A, so that at −1 and −2 they differ in sign or one of them is 0.
-use mathlib.Core.Path.{◌≡◌, sym, ap, subst, ◌∙◌}
+use mathlib.Core.Path.{◌≡◌, subst}
 use Prim.Native.Nat.{ℕ, zero, suc, ◌+◌, ◌*◌, ◌^◌, ◌<◌}
 use native.Mathlib.Omega.{arith}
-use lib.IntN.{ℤ, pos, negsuc, suc_ℤ, ◌+ℤ◌, +ℤ_assoc, +ℤ_one}
+use Rattle.std.proofs.lemmas.Int.{ints}
+use lib.IntN.{ℤ, pos, negsuc, ◌+ℤ◌}
 use Rattle.thresholds.specs.declared.Thresholds.{Thresholds}
 use Rattle.thresholds.specs.Lists.{threshold_of}
 use Rattle.crossing.specs.Exponents.{above, below}
@@ -19,9 +20,7 @@ Whole (negsuc (suc zero)) s x y = (s < x) × (y < 4 * 4 * s)
 Whole (negsuc (suc (suc n))) s x y = (s * 2 ^ suc n < x) × (y < 4 * 2 ^ suc (suc (suc n)) * s)
 
 two_more : (n : ℕ) → negsuc (suc (suc n)) +ℤ pos 2 ≡ negsuc n
-two_more n =
-    let A = negsuc (suc (suc n)) in
-    sym (+ℤ_assoc A (pos 1) (pos 1)) ∙ +ℤ_one (A +ℤ pos 1) ∙ ap suc_ℤ (+ℤ_one A)
+two_more n = grind (arith, ints)
 
 whole : (A : ℤ) (s x y : ℕ) → s * 2 ^ below (A +ℤ pos 2) < 2 ^ above (A +ℤ pos 2) * x → 2 ^ above A * y < 4 * 2 ^ below A * s → Whole A s x y
 unfolding Whole above below
