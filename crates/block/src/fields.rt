@@ -1,13 +1,13 @@
 // What the check of a block reads, with no test for the end, and how many samples one may hold.
 ghost use Rattle.std.specs.Prelude.{◌&&◌, ◌≡◌, ◌==◌, ◌<◌, leb};
 ghost use Rattle.std.specs.List.{list_all};
-ghost use Rattle.block.specs.Block.{word as wordOf};
+ghost use Rattle.block.specs.Block.{word};
 
 // One of a block's words, which have two bytes each.
 #[tactic(auto, using(crate::proofs::Numbers::word_is))]
 pub fn word(block: &[u8; 512], i: usize) -> u16
     requires { i < 256 }
-    ensures { result ≡ wordOf block.now i }
+    ensures { result ≡ word block.now i }
 {
     u16::from_le_bytes([block[2 * i], block[2 * i + 1]])
 }
