@@ -1,6 +1,6 @@
 // Standard input by large reads into a buffer. The end of the input and a failure to read are told
 // apart.
-ghost use Rattle.std.specs.Prelude.{◌≤◌};
+ghost use Rattle.std.specs.Prelude.{◌≡◌, ◌-◌, ◌≤◌, length};
 
 use page::{SystemError, Tries};
 use std::io::Read;
@@ -38,7 +38,9 @@ impl<const N: usize> Source<N> {
     }
 
     // The bytes that are read and not yet used.
-    pub fn unused(&self) -> &[u8] {
+    pub fn unused(&self) -> &[u8]
+        ensures { length result.now ≡ self.now.end - self.now.at }
+    {
         let buffer = &self.buffer[..];
         &buffer[self.at..self.end]
     }
