@@ -64,6 +64,7 @@ impl<'a> Band<'a> {
         ensures { Around self.entry.list.now q result }
     {
         let mut band = self;
+        // Not a range: from band to band, until one begins low enough.
         while q < band.low {
             band = band.down();
         }
@@ -76,6 +77,7 @@ impl<'a> Band<'a> {
         ensures { Around self.entry.list.now q result }
     {
         let mut band = self;
+        // Not a range: from band to band, until one ends high enough.
         while band.high <= q {
             band = band.up();
         }

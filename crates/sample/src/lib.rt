@@ -69,6 +69,7 @@ impl State {
             i: by.i,
         };
         let mut at = 0;
+        // Not a range: where a run ends is found as it is taken.
         while at < xs.len() {
             let run = run_on(moving, by, band, xs, at);
             at = run.end;
