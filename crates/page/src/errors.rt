@@ -1,4 +1,8 @@
 // The errors of the system that the programs can meet, by their numbers on Linux.
+ghost use Rattle.std.specs.Prelude.{◌≡◌, ◌↔◌, pos, IsTrue, unwrap_or};
+ghost use Rattle.std.specs.IoError.{raw_os_error};
+ghost use Rattle.page.specs.SystemError.{number_of, IsInterruption};
+
 use std::error::Error;
 use std::{fmt, io};
 
@@ -24,7 +28,9 @@ pub struct SystemError(i32);
 
 impl SystemError {
     // Whether a signal came before the call did anything.
-    pub fn is_interrupted(self) -> bool {
+    pub fn is_interrupted(self) -> bool
+        ensures { IsTrue result ↔ IsInterruption self }
+    {
         self.0 == EINTR
     }
 
@@ -45,6 +51,8 @@ impl SystemError {
 }
 
 impl From<io::Error> for SystemError {
+    ghost from_gives = { λ error e. number_of e ≡ unwrap_or (raw_os_error error) (pos 0) };
+
     fn from(error: io::Error) -> SystemError {
         SystemError(error.raw_os_error().unwrap_or(0))
     }

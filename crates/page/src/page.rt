@@ -3,72 +3,106 @@
 // write into one pipe or one log. A longer line than a page comes in pieces: only the line that shows
 // a buffer of more than 513 bytes is put so. In `blocks` what waits are blocks, on a page of its own
 // size.
+ghost use Rattle.std.specs.Prelude.{◌≡◌, ◌+◌, ◌<◌, ◌≤◌, ◌↔◌, [], ◌++◌, length, take, IsOk, IsErr, IsTrue};
+ghost use Rattle.page.specs.Page.{waiting_of, writing_of};
+
 use crate::SystemError;
 use crate::sending::sent;
 use arrayvec::ArrayVec;
 use std::fmt;
 use std::fmt::{Display, Write};
 
+// Bytes that wait to be written.
+#[derive(Drop)]
+struct Waiting<const N: usize> {
+    bytes: ArrayVec<u8, N>,
+}
+
+// Text goes behind what waits, as far as there is room.
+impl<const N: usize> Write for Waiting<N> {
+    ghost write_str_gives = { λ old text new. new.bytes.items ≡ old.bytes.items ++ text };
+
+    fn write_str(&mut self, text: &str) -> fmt::Result {
+        self.bytes
+            .try_extend_from_slice(text.as_bytes())
+            .map_err(|_| fmt::Error)
+    }
+}
+
 // What waits to be written, and how writing goes: well, or a write failed.
 #[derive(Drop)]
 pub struct Page<const N: usize> {
-    waiting: ArrayVec<u8, N>,
+    waiting: Waiting<N>,
     writing: Result<(), SystemError>,
 }
 
 impl<const N: usize> Page<N> {
     // Nothing waits.
-    pub fn new() -> Self {
+    pub fn new() -> Self
+        ensures waiting { waiting_of result ≡ [] }
+        ensures well { IsOk (writing_of result) }
+    {
         Page {
-            waiting: ArrayVec::new(),
+            waiting: Waiting {
+                bytes: ArrayVec::new(),
+            },
             writing: Ok(()),
         }
     }
 
     // Puts bytes behind what waits, after a write where there is no room for them.
-    pub fn put<P: Print>(&mut self, to: &P, bytes: &[u8]) {
-        if self.waiting.try_extend_from_slice(bytes).is_err() {
+    pub fn put<P: Print>(&mut self, to: &P, bytes: &[u8])
+        ensures behind { length (waiting_of self.old) + length bytes.now ≤ N
+            → waiting_of self.new ≡ waiting_of self.old ++ bytes.now }
+        ensures full { N < length (waiting_of self.old) + length bytes.now
+            → waiting_of self.new ≡ take N bytes.now }
+        ensures unwritten { length (waiting_of self.old) + length bytes.now ≤ N
+            → writing_of self.new ≡ writing_of self.old }
+        ensures failed { IsErr (writing_of self.old) → writing_of self.new ≡ writing_of self.old }
+    {
+        if self.waiting.bytes.try_extend_from_slice(bytes).is_err() {
             self.write_out(to);
             let fitting = bytes.len().min(N);
-            let _ = self.waiting.try_extend_from_slice(&bytes[..fitting]);
+            let _ = self.waiting.bytes.try_extend_from_slice(&bytes[..fitting]);
         }
     }
 
     // Puts a line, or a piece of one, likewise.
-    pub fn print<P: Print, D: Display + Drop>(&mut self, to: &P, line: D) {
-        let before = self.waiting.len();
-        if write!(self, "{line}").is_err() {
-            self.waiting.truncate(before);
+    pub fn print<P: Print, D: Display + Drop>(&mut self, to: &P, line: D)
+        ensures failed { IsErr (writing_of self.old) → writing_of self.new ≡ writing_of self.old }
+    {
+        let before = self.waiting.bytes.len();
+        if write!(self.waiting, "{line}").is_err() {
+            self.waiting.bytes.truncate(before);
             self.write_out(to);
-            let _ = write!(self, "{line}");
+            let _ = write!(self.waiting, "{line}");
         }
     }
 
     // Writes all that waits. After a failure nothing is written any more.
-    pub fn write_out<P: Print>(&mut self, to: &P) {
+    pub fn write_out<P: Print>(&mut self, to: &P)
+        ensures waiting { waiting_of self.new ≡ [] }
+        ensures idle { waiting_of self.old ≡ [] → writing_of self.new ≡ writing_of self.old }
+        ensures failed { IsErr (writing_of self.old) → writing_of self.new ≡ writing_of self.old }
+    {
         if self.is_well() {
-            self.writing = sent(to, self.waiting.as_slice());
+            self.writing = sent(to, self.waiting.bytes.as_slice());
         }
-        self.waiting.clear();
+        self.waiting.bytes.clear();
     }
 
     // Whether no write has failed.
-    pub fn is_well(&self) -> bool {
+    pub fn is_well(&self) -> bool
+        ensures { IsTrue result ↔ IsOk (writing_of self.now) }
+    {
         self.writing.is_ok()
     }
 
     // How writing goes.
-    pub fn writing(&self) -> Result<(), SystemError> {
+    pub fn writing(&self) -> Result<(), SystemError>
+        ensures { result ≡ writing_of self.now }
+    {
         self.writing
-    }
-}
-
-// Text goes behind what waits, as far as there is room.
-impl<const N: usize> Write for Page<N> {
-    fn write_str(&mut self, text: &str) -> fmt::Result {
-        self.waiting
-            .try_extend_from_slice(text.as_bytes())
-            .map_err(|_| fmt::Error)
     }
 }
 

@@ -1,10 +1,14 @@
 // Writing bytes at once.
+ghost use Rattle.std.specs.Prelude.{◌≡◌, [], IsOk};
+
 use crate::{SystemError, Tries};
 use std::io;
 use std::io::ErrorKind;
 
 // Writes bytes, by one write where the system takes them all at once.
-pub fn sent<P: Print>(to: &P, bytes: &[u8]) -> Result<(), SystemError> {
+pub fn sent<P: Print>(to: &P, bytes: &[u8]) -> Result<(), SystemError>
+    ensures nothing { bytes.now ≡ [] → IsOk result }
+{
     let mut rest = bytes;
     let mut tries = Tries::new();
     while !rest.is_empty() {
