@@ -1,6 +1,9 @@
 // Standard input by large reads into a buffer. The end of the input and a failure to read are told
 // apart.
-ghost use Rattle.std.specs.Prelude.{◌≡◌, ◌-◌, ◌≤◌, length};
+ghost use Rattle.std.specs.Prelude.{◌≡◌, ◌≢◌, ◌-◌, ◌≤◌, [], length, drop, min, Ok};
+ghost use Rattle.std.specs.Io.{StartsWith};
+ghost use Rattle.std.specs.Io.KnownBytes.{Consumes, IsAtEnd};
+ghost use Rattle.input.specs.declared.source.Coming.TheVariants.{More, End};
 
 use page::{SystemError, Tries};
 use std::io::Read;
@@ -26,8 +29,15 @@ pub struct Source<const N: usize> {
 }
 
 impl<const N: usize> Source<N> {
+    ghost use Rattle.input.specs.Inner.{Received};
+    ghost use Rattle.input.specs.Source.{unused_of, read_of, place_of, reading_of};
+
     // Before the first read.
-    pub fn new() -> Self {
+    pub fn new() -> Self
+        ensures unused { unused_of result ≡ [] }
+        ensures read { read_of result ≡ 0 }
+        ensures reading { reading_of result ≡ Ok More }
+    {
         Source {
             buffer: [0; N],
             at: 0,
@@ -39,25 +49,41 @@ impl<const N: usize> Source<N> {
 
     // The bytes that are read and not yet used.
     pub fn unused(&self) -> &[u8]
-        ensures { length result.now ≡ self.now.end - self.now.at }
+        ensures bytes { result.now ≡ unused_of self.now }
+        ensures count { length result.now ≡ self.now.end - self.now.at }
     {
         let buffer = &self.buffer[..];
         &buffer[self.at..self.end]
     }
 
     // Uses so many bytes more, as far as there are.
-    pub fn skip(&mut self, n: usize) {
+    pub fn skip(&mut self, n: usize)
+        ensures unused { unused_of self.new ≡ drop n (unused_of self.old) }
+        ensures read { read_of self.new ≡ read_of self.old }
+        ensures reading { reading_of self.new ≡ reading_of self.old }
+    {
         self.at += n.min(self.end - self.at);
     }
 
     // How many bytes of the input were used.
-    pub fn place(&self) -> u64 {
+    pub fn place(&self) -> u64
+        ensures { result ≡ place_of self.now }
+    {
         self.read.wrapping_sub(self.unused().len() as u64)
     }
 
     // Reads until so many bytes are there that are not yet used, or all that come, or all that the
     // buffer holds. They are moved to the buffer's front.
-    pub fn gather<R: Read>(&mut self, from: &mut R, n: usize) {
+    pub fn gather<R: Read>(&mut self, from: &mut R, n: usize)
+        ensures stopped { reading_of self.old ≢ Ok More → self.new ≡ self.old }
+        ensures kept { StartsWith (unused_of self.new) (unused_of self.old) }
+        ensures place { place_of self.new ≡ place_of self.old }
+        ensures came { Consumes (R.remaining from.old) (R.remaining from.new)
+            (drop (length (unused_of self.old)) (unused_of self.new)) }
+        ensures enough { reading_of self.new ≡ Ok More → min n N ≤ length (unused_of self.new) }
+        ensures ended { reading_of self.old ≡ Ok More → reading_of self.new ≡ Ok End
+            → IsAtEnd (R.remaining from.new) }
+    {
         if self.reading == Ok(Coming::More) {
             self.buffer.copy_within(self.at..self.end, 0);
             self.end -= self.at;
@@ -67,7 +93,11 @@ impl<const N: usize> Source<N> {
     }
 
     // Reads behind what the buffer holds until it holds enough, or is full, or no more comes.
-    fn receive<R: Read>(&mut self, from: &mut R, enough: usize) -> Result<Coming, SystemError> {
+    fn receive<R: Read>(&mut self, from: &mut R, enough: usize) -> Result<Coming, SystemError>
+        ensures received { Received self.old self.new (R.remaining from.old) (R.remaining from.new) }
+        ensures more { result ≡ Ok More → min enough N ≤ self.new.end }
+        ensures ended { result ≡ Ok End → IsAtEnd (R.remaining from.new) }
+    {
         let mut tries = Tries::new();
         while self.end < enough.min(N) {
             let buffer = &mut self.buffer[..];
