@@ -31,12 +31,12 @@ fn measured(held: &[u8]) -> Meter {
     let count = samples.len().min(part.len() / 2);
     let setting = Setting {
         offset: u16::read(head, 5).cast_signed(),
-        ..Setting::usual(u8::read(head, 0) as u32)
+        ..Setting::usual(u8::read(head, 0).into())
     };
     let rounds = u16::read(head, 1);
     let chunk = match u16::read(head, 3) {
         0 => 4096,
-        length => length as usize,
+        length => length.into(),
     };
     let mut meter = Meter::open(setting).meter;
     for _ in 0..rounds {

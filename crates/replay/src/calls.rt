@@ -100,7 +100,7 @@ pub fn lev(mut fields: Fields) -> Reply {
 
 // 8: the C host's check of a block.
 pub fn check(mut fields: Fields) -> Reply {
-    let code = fields.u8() as u32;
+    let code = fields.u8().into();
     let _length = fields.u16();
     Reply::Checked(block::hoggetwhirl_check_block(fields.rest(), code))
 }
@@ -108,7 +108,7 @@ pub fn check(mut fields: Fields) -> Reply {
 // 1 and 5: the code, the offset and the margin, with no list.
 fn chosen(fields: &mut Fields) -> Setting {
     Setting {
-        code: fields.u8() as u32,
+        code: fields.u8().into(),
         offset: fields.i16(),
         margin: Steps::from(fields.i64()),
         thresholds: Thresholds::none(),
@@ -122,7 +122,7 @@ fn handed(fields: &mut Fields) -> Thresholds {
         return Thresholds::built_in();
     }
     let list: [u64; TOO_MANY_THRESHOLDS] = fields.numbers();
-    Thresholds::of(&list[..list.len().min(count as usize)])
+    Thresholds::of(&list[..list.len().min(usize::from(count))])
 }
 
 fn sums(fields: &mut Fields) -> Sums {

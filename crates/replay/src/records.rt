@@ -98,12 +98,12 @@ impl Record {
             Kind::Write => (u16::read(head, 10), 2, TOO_MANY_IN_BLOCK),
             Kind::Report | Kind::Load | Kind::Show | Kind::Lev => (0, 0, 0),
         };
-        let items = count as usize;
+        let items = usize::from(count);
         let kept = items.min(most);
         Record {
             kind,
-            kept: kind.head() + width as usize * kept,
-            rest: width as usize * (items - kept),
+            kept: kind.head() + usize::from(width) * kept,
+            rest: usize::from(width) * (items - kept),
         }
     }
 }

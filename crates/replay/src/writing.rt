@@ -15,12 +15,12 @@ impl Player {
     pub fn write(&mut self, record: Record) -> Result<(), Stop> {
         let mut buffer = [0; TOO_MANY_IN_BLOCK];
         let mut fields = Fields::of(self.streams.ahead(record.kept));
-        let code = fields.u8() as u32;
+        let code = fields.u8().into();
         let before = fields.u64();
         let _count = fields.u16();
         let samples = fields.samples(&mut buffer);
         self.pass(record)?;
-        let size = self.last_field()? as usize;
+        let size = usize::from(self.last_field()?);
         // So many bytes stand for every longer buffer: the call refuses it by the code alone or else
         // with 4, and leaves it as it was.
         let mut lent = [HELD; TOO_MANY_BYTES];
@@ -46,6 +46,7 @@ impl Player {
     fn show(&mut self, number: u32, size: usize, lent: &[u8; TOO_MANY_BYTES]) {
         let mut number = Some(number);
         let mut left = size;
+        // Not a slice in pieces: the one lent buffer stands for each.
         while TOO_MANY_BYTES < left {
             let number = number.take();
             self.streams.print(Piece {
