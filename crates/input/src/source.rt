@@ -99,6 +99,7 @@ impl<const N: usize> Source<N> {
         ensures ended { result ≡ Ok End → IsAtEnd (R.remaining from.new) }
     {
         let mut tries = Tries::new();
+        // Not a range: the system gives as much at a time as it has.
         while self.end < enough.min(N) {
             let buffer = &mut self.buffer[..];
             match from.read(&mut buffer[self.end..]) {

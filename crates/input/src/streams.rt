@@ -91,6 +91,7 @@ impl<const IN: usize, const OUT: usize> Streams<IN, OUT> {
         ensures failed { IsErr (writing_of self.old) → writing_of self.new ≡ writing_of self.old }
     {
         let mut left = n;
+        // Not a range: each turn passes what a read brought.
         while 0 < left {
             self.ready(1);
             let count = left.min(self.unused());
