@@ -21,7 +21,7 @@ use Rattle.coding.specs.Samples.{signed, samples_at}
 use Rattle.coding.proofs.Laws.{samples_at_length}
 use Rattle.block.specs.Block.{rate_code, count, samples_in}
 use Rattle.block.specs.Refusals.{wrong_length, wrong_check, wrong_kind, wrong_rate, wrong_count, used_unused, block_rules, sound, samples_part, host_rules, host_check}
-use Rattle.block.proofs.Conditions.{rate_right}
+use Rattle.block.proofs.Conditions.{rate_off, rate_right}
 
 -- ---- soundness
 
@@ -60,6 +60,13 @@ unfolding block_rules first_of
 sound_accepted b code h e =
     let s = sound_is b h in
     sym (simp (s.length_ok, s.check_ok, s.kind_ok, rate_right b code e, s.count_ok, s.unused_ok))
+
+-- and at another only 7 does
+pub sound_refused : (b : List ℕ) (code : ℕ) → sound b ≡ true → (rate_code b ≡ code → ⊥) → 7 ≡ first_of (block_rules b code)
+unfolding block_rules first_of
+sound_refused b code h f =
+    let s = sound_is b h in
+    sym (simp (s.length_ok, s.check_ok, s.kind_ok, rate_off b code f))
 
 blocks_numbered : (b : List ℕ) (code : ℕ) → numbered (block_rules b code) ≡ true
 unfolding block_rules numbered

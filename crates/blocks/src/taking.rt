@@ -3,12 +3,12 @@ use crate::arguments::Asked;
 use arrayvec::ArrayVec;
 
 // The samples taken that are in no block yet, at most as many as fill one; how many samples are left
-// out before the next one is taken; and how many are left out between two.
+// out before the next one is taken; and that every k-th is.
 #[derive(Drop)]
 pub struct Taking {
     pub samples: ArrayVec<i16, 248>,
-    skip: u32,
-    between: u32,
+    skip: usize,
+    k: usize,
 }
 
 impl Taking {
@@ -17,25 +17,22 @@ impl Taking {
         Taking {
             samples: ArrayVec::new(),
             skip: 0,
-            between: asked.k.get() - 1,
+            k: asked.k.get() as usize,
         }
     }
 
     // Takes samples of a piece of the input, up to the last whole one in it or as long as there is room
-    // for them, and answers with how many of its bytes are done with.
+    // for them, and answers with how many of its bytes are done with. Those left out are stepped over.
     pub fn take(&mut self, piece: &[u8]) -> usize {
-        for (i, sample) in piece.chunks_exact(2).enumerate() {
-            if self.samples.is_full() {
-                return 2 * i;
-            }
-            if self.skip == 0 {
-                self.samples
-                    .push(i16::from_le_bytes([sample[0], sample[1]]));
-                self.skip = self.between;
-            } else {
-                self.skip -= 1;
-            }
+        let (pairs, _) = piece.as_chunks::<2>();
+        let mut place = self.skip;
+        for _ in 0..self.samples.remaining_capacity() {
+            let Some(pair) = pairs.get(place) else { break };
+            let _ = self.samples.try_push(i16::from_le_bytes(*pair));
+            place = place.saturating_add(self.k);
         }
-        piece.len() / 2 * 2
+        let done = place.min(pairs.len());
+        self.skip = place - done;
+        2 * done
     }
 }

@@ -44,7 +44,7 @@ impl From<NoCrossing> for Refusal {
 }
 
 // The levels of n samples with the sum of squares sq and, at a list of thresholds, the activity
-// counts a.
+// counts a. The arguments are those of its border, specs/Inner/FindLevels.antt.
 #[tactic(auto, using(crate::proofs::Sizes::level_read, crate::proofs::Searching::found), unfolding(crate::specs::Crossing::crossing))]
 pub fn find_levels(
     n: Samples,

@@ -16,7 +16,8 @@ use thresholds::{PLACES, Thresholds};
 // Twice the level of one interval in units, 2^24
 const INTERVAL_STEPS: i64 = 196608;
 
-// The level of a sum of squares, the margin, the thresholds and the activity counts.
+// The level of a sum of squares, the margin, the thresholds and the activity counts. The last two are
+// lists of their own, as the meter holds them.
 #[derive(Clone, Copy)]
 pub(crate) struct Measurement<'a> {
     pub power: Steps,

@@ -31,7 +31,7 @@ pub struct Units(u64);
 
 // A sum of squares, in two words. The high one comes first, so the order is that of the sums.
 #[derive(Clone, Copy, Debug)]
-#[derive(PartialEq, Eq, PartialOrd, Ord)]
+#[derive(PartialEq, Eq, PartialOrd, Ord)] // what compares two, on a line of its own
 pub struct Squares {
     pub high: u64,
     pub low: u64,
@@ -87,6 +87,7 @@ impl Steps {
     }
 }
 
+// Each of the three has a conversion of its own, since they are kept apart.
 impl From<u64> for Samples {
     ghost from_gives = { λ n r. r ≡ samples_of n };
 

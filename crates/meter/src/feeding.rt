@@ -122,16 +122,19 @@ impl Meter {
 }
 
 // The bytes of a block's samples, of a named rate; or the first of refusals 4 to 9. Only a sound block
-// has such bytes, so the check words of one that is taken are made once.
-#[tactic(auto, using(block::proofs::Laws::part_sound, block::proofs::Laws::accepted_sound))]
+// has such bytes, so of the rules only that of the rate is left, and no check word is made again.
+#[tactic(auto, using(block::proofs::Laws::part_sound, block::proofs::Laws::accepted_sound, block::proofs::Laws::sound_refused))]
 fn sound_part(bytes: &[u8], code: u32) -> Result<&[u8], Refusal>
     requires { is_named code ≡ true }
     ensures sound { IfOk result (λ part. SoundAt bytes.now code part.now) }
     ensures refused { IfErr result (λ why. number_of why ≡ first_of (block_rules bytes.now code)) }
 {
     let part = block::samples_part(bytes);
-    if part.is_empty() || block::rate_code(bytes) != code {
+    if part.is_empty() {
         block::check(bytes, code)?;
+    }
+    if block::rate_code(bytes) != code {
+        return Err(Refusal::BlockRate);
     }
     Ok(part)
 }

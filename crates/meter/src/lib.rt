@@ -35,14 +35,15 @@ pub struct Report {
     pub mark: bool,
 }
 
-// What a call hands back: its answer, and the meter.
+// What a call hands back: its answer and, beside it whether refused or not, the meter.
 #[derive(Clone, Copy)]
 pub struct Fed {
     pub answer: Result<(), Refusal>,
     pub meter: Meter,
 }
 
-// What a report call hands back: its answer, the meter, and the report.
+// What a report call hands back: its answer, the meter, and the report, which is all zeros beside a
+// refusal.
 #[derive(Clone, Copy)]
 pub struct Reported {
     pub answer: Result<(), Refusal>,

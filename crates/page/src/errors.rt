@@ -3,7 +3,6 @@ ghost use Rattle.std.specs.Prelude.{◌≡◌, ◌↔◌, pos, IsTrue, unwrap_or
 ghost use Rattle.std.specs.IoError.{raw_os_error};
 ghost use Rattle.page.specs.SystemError.{number_of, IsInterruption};
 
-use std::error::Error;
 use std::{fmt, io};
 
 const EINTR: i32 = 4;
@@ -28,7 +27,7 @@ pub struct SystemError(i32);
 
 impl SystemError {
     // Whether a signal came before the call did anything.
-    pub fn is_interrupted(self) -> bool
+    pub(crate) fn is_interrupted(self) -> bool
         ensures { IsTrue result ↔ IsInterruption self }
     {
         self.0 == EINTR
@@ -63,5 +62,3 @@ impl fmt::Display for SystemError {
         write!(f, "error {}{}", self.0, self.meaning())
     }
 }
-
-impl Error for SystemError {}

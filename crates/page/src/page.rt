@@ -67,7 +67,7 @@ impl<const N: usize> Page<N> {
         }
     }
 
-    // Puts a line, or a piece of one, likewise.
+    // Puts a line, or a piece of one, likewise: of one that is longer than a page, the parts that fit.
     pub fn print<P: Print, D: Display + Drop>(&mut self, to: &P, line: D)
         ensures failed { IsErr (writing_of self.old) → writing_of self.new ≡ writing_of self.old }
     {
@@ -106,10 +106,29 @@ impl<const N: usize> Page<N> {
     }
 }
 
-// Says a line of at most 512 bytes on standard error, by one write. Where that fails there is nowhere to
-// say so.
+// What is said on standard error waits for one write too, as far as there is room for it.
+#[derive(Drop)]
+struct Said<'a, P> {
+    page: Page<512>,
+    to: &'a P,
+}
+
+impl<P: Print> Write for Said<'_, P> {
+    fn write_str(&mut self, text: &str) -> fmt::Result {
+        for piece in text.as_bytes().chunks(512) {
+            self.page.put(self.to, piece);
+        }
+        Ok(())
+    }
+}
+
+// Says a line on standard error, by one write where it has at most 512 bytes. Where that fails there is
+// nowhere to say so.
 pub fn told<P: Print, D: Display + Drop>(to: &P, line: D) {
-    let mut page = Page::<512>::new();
-    page.print(to, line);
-    page.write_out(to);
+    let mut said = Said {
+        page: Page::new(),
+        to,
+    };
+    let _ = write!(said, "{line}");
+    said.page.write_out(to);
 }

@@ -52,6 +52,7 @@ pub fn impossible_counters(state: &State, count: usize, hangover: u64) -> bool
     ensures { result ≡ some_below (min count places) (impossible_counter hangover state.now) || some_from count places (filled_counter state.now) }
 {
     let many = count.min(PLACES);
+    // A loop, since each counter is held to the one before it.
     let mut before = state.sums.n;
     let mut held = 0;
     for (&a, &h) in state.a[..many].iter().zip(&state.h[..many]) {

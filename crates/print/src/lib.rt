@@ -95,7 +95,7 @@ impl Display for Totals {
     }
 }
 
-// Activity counts.
+// Activity counts. They show by their numbers, and words are no quantity, so `Numbers` is another.
 #[derive(Clone, Copy)]
 pub struct Counts<'a>(pub &'a [Samples]);
 

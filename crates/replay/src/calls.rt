@@ -45,10 +45,10 @@ fn given(name: &'static str, fed: Fed, meter: &mut Meter) -> Reply {
 
 // 1: an opening.
 pub fn open(mut fields: Fields, meter: &mut Meter) -> Reply {
-    let chosen = chosen(&mut fields);
+    let setting = chosen(&mut fields);
     let fed = Meter::open(Setting {
         thresholds: handed(&mut fields),
-        ..chosen
+        ..setting
     });
     given("open", fed, meter)
 }
@@ -75,14 +75,14 @@ pub fn report(meter: &mut Meter) -> Reply {
 
 // 5: a meter to go on with.
 pub fn load(mut fields: Fields, meter: &mut Meter) -> Reply {
-    let chosen = chosen(&mut fields);
+    let setting = chosen(&mut fields);
     *meter = Meter {
         setting: Setting {
             thresholds: Thresholds {
                 count: fields.u64() as usize,
                 at: fields.numbers(),
             },
-            ..chosen
+            ..setting
         },
         state: State {
             sums: sums(&mut fields),
