@@ -1,5 +1,5 @@
 -- What a read leaves of what came before it.
-use Rattle.std.proofs.Common.{◌≡◌, ℕ, ◌+◌, ◌-◌, ◌^◌, ◌%◌, ◌≤◌, List, ◌++◌, [], Option, refl, sym, ap, subst, ◌∙◌, length, take, drop, slice_range, arith}
+use Rattle.std.proofs.Common.{◌≡◌, ℕ, ◌+◌, ◌-◌, ◌^◌, ◌%◌, ◌≤◌, List, ◌++◌, [], Option, sym, ap, subst, ◌∙◌, length, take, drop, slice_range, arith}
 use Rattle.std.proofs.KnownBytes.{Consumes-nil, Consumes-trans, Consumes-kept}
 use Rattle.std.proofs.Math.Seq.{take-add}
 use Rattle.std.proofs.lemmas.List.{drop_at, take-append-le, drop-append-le, length-take-le, length-drop, take-take}
@@ -12,17 +12,6 @@ use borrow.Rule.Slice.PartMut.{mid_of, put_mid, same_len_mid}
 use Rattle.input.specs.declared.source.Source.{Source}
 use Rattle.input.specs.Inner.{Received}
 use Rattle.input.specs.Source.{unused_of, place_of}
-
--- at first nothing came
-pub Received-none : {N : ℕ} (s : Source N) (had : Option (List ℕ)) → Received s s had had
-Received-none s had = record {
-  size = refl;
-  at = refl;
-  grows = omega arith;
-  held = refl;
-  place = refl;
-  came = let none : s.end - s.end ≡ 0 = omega arith in subst (λ k. Consumes had had (take k (drop s.end s.buffer))) (sym none) (Consumes-nil had);
-}
 
 -- from b on, where a read put ys from e on and n bytes of it count
 came_too : (xs ys : List ℕ) (b e n : ℕ) → b ≤ e → e ≤ length xs → n ≤ length ys

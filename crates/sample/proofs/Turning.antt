@@ -23,7 +23,7 @@ use Rattle.sample.specs.declared.band.Band.{Band}
 use Rattle.sample.specs.declared.counters.Counters.{Counters}
 use Rattle.sample.specs.declared.step.Moving.{Moving}
 use Rattle.sample.specs.Sample.{each, summed, state_after}
-use Rattle.sample.specs.Inner.Counters.{Standing, SettledAt, Settled}
+use Rattle.sample.specs.Inner.Counters.{SettledAt, Settled}
 use Rattle.sample.specs.Inner.Over.{count_over, hangover_over, between}
 use Rattle.sample.specs.Inner.Runs.{counts_by, hangovers_by, state_of, led, led_by, Ran}
 use Rattle.sample.specs.Inner.Steps.{begun, moved, ended, Room}
@@ -153,17 +153,6 @@ module _ (by : Counting) (T : Thresholds) (s : State) (xs : List ℤ) (m : Movin
 
 module _ (by : Counting) (T : Thresholds) (s : State) (xs : List ℤ) (c : Counters) (m : Moving) (band : Band) (at : ℕ) (t : Turning by T s xs c m band at)
     (all : s.sums.n.0 + length xs ≤ most_samples) where
-  -- the counters can be settled at any later index
-  pub standing : (end : ℕ) → at ≤ end → end ≤ length xs → Standing end c
-  standing end l e =
-      record {
-        index = λ j. omega (arith, t.index j);
-        room = λ j. fits (activity c.a j) (get_or c.since j 0) s.sums.n.0 end (length xs) (t.a_max j) (omega (arith, t.index j)) e all;
-      }
-    where
-      fits : (v s n e l : ℕ) → v ≤ n + s → s ≤ e → e ≤ l → n + l ≤ most_samples → v + (e - s) < 2 ^ 63
-      fits v s n e l h g p k = omega arith
-
   -- which thresholds the band is above
   reached : (j : ℕ) → j < T.count → leb (threshold_of T j) band.low ≡ ltb j band.below
   reached = sides T band t.of_list t.list m.q t.from t.to

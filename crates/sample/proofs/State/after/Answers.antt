@@ -7,7 +7,7 @@ use Rattle.thresholds.specs.declared.Thresholds.{Thresholds}
 use Rattle.sample.specs.declared.Counting.{Counting}
 use Rattle.sample.specs.declared.State.{State}
 use Rattle.sample.specs.Sample.{list_from, state_after}
-use Rattle.sample.proofs.Turning.{First, first_room, started, standing, turned, finished}
+use Rattle.sample.proofs.Turning.{First, first_room, started, turned, finished}
 use Rattle.sample.proofs.State.after.Goals as goal
 use Rattle.sample.proofs.State.after.Goals.{After-lowest}
 
@@ -42,18 +42,10 @@ loop-at-init c =
     let b = c.around-band.ensures in
     started _ _ _ _ _ (first (goal.at.loop-at-init c).After-lowest) _ _ (b.list ∙ c.lowest.ensures) b.from b.to (search rules) (search rules) (search rules) refl refl refl refl
 
-pub cross-requires : goal.cross-requires
-cross-requires c =
-    let r = c.run_on-run.ensures in
-    standing _ _ _ _ _ _ _ _ c.loop-at.invariant c.requires.room _ (omega (arith, r.on)) r.within
-
 pub loop-at-preserved : goal.loop-at-preserved
 loop-at-preserved c =
     let b = c.around-next.ensures in
     turned _ _ _ _ _ _ _ _ c.loop-at.invariant c.requires.room _ _ _ c.run_on-run.ensures (b.list ∙ c.loop-at.invariant.of_list) b.from b.to _ c.cross.ensures
-
-pub finish-requires : goal.finish-requires
-finish-requires c = standing _ _ _ _ _ _ _ _ c.loop-at.invariant c.requires.room _ (omega arith) c.loop-at.invariant.within
 
 pub returns : goal.returns
 returns c =

@@ -1,13 +1,6 @@
 use Rattle.std.proofs.Common.{refl, arith}
-use Rattle.input.proofs.Receiving.{Received-none, Received-read, Received-failed}
+use Rattle.input.proofs.Receiving.{Received-read, Received-failed}
 use Rattle.input.proofs.source.Source.receive.Goals as goal
-
-pub loop-self-init : goal.loop-self-init
-loop-self-init g c = Received-none _ _
-
-pub returns-in-Ok-eq0-clause-received : goal.returns-in-Ok-eq0-clause-received
-returns-in-Ok-eq0-clause-received g c =
-    Received-read _ c.loop-self.self _ _ _ _ c.read.new.buf c.in-Ok-eq0.field-0 c.loop-self.invariant c.in-Ok-eq0.ensures.bytes.0 (grind arith) c.read.auto.buf c.in-Ok-eq0.ensures.bound.0 refl (grind arith) refl refl
 
 pub loop-self-preserved-in-Ok : goal.loop-self-preserved-in-Ok
 loop-self-preserved-in-Ok g c =
