@@ -15,7 +15,7 @@ use Rattle.coding.specs.Numbers.{number_at}
 use Rattle.coding.proofs.Bytes.{first_is, rest_is}
 use Rattle.coding.proofs.Numbers.{one_byte}
 use Rattle.refusal.proofs.Laws.{both}
-use Rattle.block.specs.Block.{kind, rate_code, count, before, word, sum_below, check_sum, weighted_sum}
+use Rattle.block.specs.Block.{kind, rate_code, before, word, sum_below, check_sum, weighted_sum}
 use Rattle.block.specs.Refusals.{zeros}
 
 pub before_is : (b : List ℕ) → number_at b 4 8 ≡ before b
@@ -33,10 +33,6 @@ kind_is b = one_byte b 0
 pub rate_code_is : (b : List ℕ) → number_at b 1 1 ≡ rate_code b
 unfolding rate_code
 rate_code_is b = refl
-
-pub count_is : (b : List ℕ) → number_at b 2 2 ≡ count b
-unfolding count
-count_is b = refl
 
 -- ---- a run of zeros
 

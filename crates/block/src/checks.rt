@@ -38,6 +38,7 @@ impl CheckWords {
             weighted += (254 - i) * w;
         }
         CheckWords {
+            // as: a remainder by 65535 fits 16 bits
             sum: (sum % 65535) as u16,
             weighted: (weighted % 65535) as u16,
         }

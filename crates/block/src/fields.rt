@@ -3,7 +3,8 @@ ghost use Rattle.std.specs.Prelude.{◌&&◌, ◌≡◌, ◌==◌, ◌<◌, leb}
 ghost use Rattle.std.specs.List.{list_all};
 ghost use Rattle.block.specs.Block.{word};
 
-// One of a block's words, which have two bytes each.
+// One of a block's words, which have two bytes each. In an array no place needs a test for the end, as
+// it does where coding reads.
 #[tactic(auto, using(crate::proofs::Numbers::word_is))]
 pub fn word(block: &[u8; 512], i: usize) -> u16
     requires { i < 256 }

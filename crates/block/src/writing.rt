@@ -33,6 +33,7 @@ pub fn write(code: u32, before: u64, samples: &[i16], buffer: &mut [u8]) -> Resu
 fn is_unwritable(before: u64, count: usize) -> bool
     ensures { result ≡ unwritable before count }
 {
+    // as: usize has no From to u64
     !fields::may_hold(count) || MOST_SAMPLES - (count as u64) < before
 }
 

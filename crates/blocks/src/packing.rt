@@ -49,6 +49,7 @@ impl Packing {
         let made = block::write(self.code, self.before, &self.taking.samples, &mut block);
         match made {
             Ok(()) => {
+                // as: usize has no From to u64
                 self.before = self.before.wrapping_add(self.taking.samples.len() as u64);
                 self.streams.put(&block);
             }

@@ -17,7 +17,7 @@ impl Taking {
         Taking {
             samples: ArrayVec::new(),
             skip: 0,
-            k: asked.k.get() as usize,
+            k: asked.k.get() as usize, // as: u32 has no From to usize
         }
     }
 
@@ -25,6 +25,7 @@ impl Taking {
     // for them, and answers with how many of its bytes are done with. Those left out are stepped over.
     pub fn take(&mut self, piece: &[u8]) -> usize {
         let (pairs, _) = piece.as_chunks::<2>();
+        // By place: where the next sample lies goes over into the next piece.
         let mut place = self.skip;
         for _ in 0..self.samples.remaining_capacity() {
             let Some(pair) = pairs.get(place) else { break };

@@ -4,7 +4,7 @@ ghost use Rattle.std.proofs.lemmas.List.Edits.{sets};
 ghost use Rattle.coding.specs.Numbers.{bytes_of};
 ghost use Rattle.coding.specs.Samples.{bytes_of_samples};
 
-// A number, in so many bytes.
+// A number, in so many bytes. By hand, since of any size, where to_le_bytes ends at the word's.
 #[tactic(auto, using(crate::proofs::Parts::number_turn, crate::proofs::Parts::number_end))]
 pub fn put_number(buffer: &mut [u8], at: usize, size: usize, x: u64)
     ensures { buffer.new ≡ sets buffer.old at (bytes_of size x) }
@@ -12,7 +12,7 @@ pub fn put_number(buffer: &mut [u8], at: usize, size: usize, x: u64)
     let end = buffer.len().min(at.saturating_add(size));
     let mut rest = x;
     for place in at..end {
-        buffer[place] = (rest % 256) as u8;
+        buffer[place] = (rest % 256) as u8; // as: a remainder by 256 is a byte
         rest /= 256;
     }
 }

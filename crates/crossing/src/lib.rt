@@ -72,7 +72,7 @@ pub fn find_levels(
         active: active.level,
         threshold: active.level - margin,
         factor: level - active.level,
-        lower: active.lower as u64,
+        lower: active.lower as u64, // as: usize has no From to u64
         upper: upper as u64,
     })
 }

@@ -142,7 +142,7 @@ impl Point {
         let rise = size(upper.active - self.active);
         let width = size(self.excess - upper.excess);
         let part = rise * size(self.excess) / width;
-        self.active + Steps::from(part as i64)
+        self.active + Steps::from(part as i64) // as: a part of the rise is no larger
     }
 }
 

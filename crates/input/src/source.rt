@@ -16,7 +16,8 @@ pub enum Coming {
 }
 
 // A buffer with the bytes that are read and not yet used, from `at` up to `end`; how many were read in
-// all; and how reading goes.
+// all; and how reading goes. It has two ends, where an ArrayVec has one: the bytes stay in place as they
+// are used.
 #[derive(Drop)]
 pub struct Source<const N: usize> {
     buffer: [u8; N],
@@ -106,6 +107,7 @@ impl<const N: usize> Source<N> {
                 Ok(0) => return Ok(Coming::End),
                 Ok(count) => {
                     self.end += count;
+                    // as: usize has no From to u64
                     self.read = self.read.wrapping_add(count as u64);
                 }
                 Err(error) => tries.again(error)?,

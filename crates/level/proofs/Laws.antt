@@ -1,6 +1,6 @@
 -- The three facts about lev: `facts`, by which the crates above know it. The place of the highest one bit and the start m bound n on both sides,
 -- and the squarings carry both bounds to n^4096.
-use Rattle.std.proofs.Common.{◌≡◌, ℕ, zero, suc, ◌+◌, ◌*◌, ◌/◌, ◌^◌, ◌<◌, ◌≤◌, pos, sym, refl, ap, ◌∙◌, subst, le_trans, le_of_eq, lt_of_lt_of_le, le_of_suc-le-suc, lt_of_le_of_lt, mul-le-mul_right, mul_assoc, mul_comm, div-lt_iff_lt-mul, le_antisymm, lt_of_mul-lt-mul_right, mul-le-mul_left, mul-lt-mul_of_pos_right, pow-suc, lt_of_not-le, le-div_iff_mul-le, not-le_of_lt, div-mul-le_self, le_of_mul-le-mul_right, arith, pow_pos, pow_mono, pow-add, le-leb}
+use Rattle.std.proofs.Common.{◌≡◌, ℕ, zero, suc, ◌+◌, ◌*◌, ◌/◌, ◌^◌, ◌<◌, ◌≤◌, pos, sym, ap, ◌∙◌, subst, le_trans, le_of_eq, lt_of_lt_of_le, le_of_suc-le-suc, lt_of_le_of_lt, mul-le-mul_right, mul_assoc, mul_comm, div-lt_iff_lt-mul, le_antisymm, lt_of_mul-lt-mul_right, mul-le-mul_left, mul-lt-mul_of_pos_right, pow-suc, lt_of_not-le, le-div_iff_mul-le, not-le_of_lt, div-mul-le_self, le_of_mul-le-mul_right, arith, pow_pos, pow_mono, pow-add, le-leb}
 use native.Mathlib.Nat.{one-le-pow, pow-le-pow_left, lt-div-mul-add}
 use native.Mathlib.Decide.{dec_le}
 use lib.Pow.{shr_mono}
@@ -134,9 +134,3 @@ pub level_known : (n : ℕ) (r : Option Steps) → 1 ≤ n → n ≤ 2 ^ 80 → 
 unfolding value_of
 level_known n (Some s) h u e = let q = e ∙ level_exists n h u in cc
 level_known n None h u e = let q = e ∙ level_exists n h u in cc
-
--- and one for any other number holds 0
-pub level_unknown : (n : ℕ) (r : Option Steps) → level_of n ≡ None → value_of r ≡ level_of n → steps_in r ≡ pos 0
-unfolding value_of
-level_unknown n (Some s) f e = let q = e ∙ f in cc
-level_unknown n None f e = refl

@@ -29,7 +29,8 @@ pub struct Hundredths(u64);
 #[derive(Clone, Copy, Debug, PartialEq, Eq, PartialOrd, Ord)]
 pub struct Units(u64);
 
-// A sum of squares, in two words. The high one comes first, so the order is that of the sums.
+// A sum of squares, in two words, as `two_words` and a report have it. The high one comes first, so the
+// order is that of the sums.
 #[derive(Clone, Copy, Debug)]
 #[derive(PartialEq, Eq, PartialOrd, Ord)] // what compares two, on a line of its own
 pub struct Squares {
@@ -87,7 +88,8 @@ impl Steps {
     }
 }
 
-// Each of the three has a conversion of its own, since they are kept apart.
+// Each of the three has a conversion and a number of its own: they are kept apart, as `samples_of`,
+// `hundredths_of` and `units_of` are, and one type with a marker would be no plainer.
 impl From<u64> for Samples {
     ghost from_gives = { λ n r. r ≡ samples_of n };
 
@@ -186,6 +188,7 @@ fn lev(n: u128) -> Option<Steps>
     }
     let place = n.ilog2();
     let m = (n << 31) >> place;
+    // as: n is below 2 to the place + 1, so m is below 2^32
     Some(Steps(i64::from(4096 * place + twelve_bits(m as u32))))
 }
 
@@ -200,7 +203,7 @@ fn twelve_bits(start: u32) -> u32
     for _ in 0..12u32 {
         let square = m * m;
         let bit = square >> 63;
-        bits = 2 * bits + bit as u32;
+        bits = 2 * bits + bit as u32; // as: it is 0 or 1
         m = square >> (31 + bit);
     }
     bits

@@ -98,6 +98,7 @@ impl Meter {
         ensures room { OnOk result (self.now.state.sums.n.0 + new ≤ most_samples) }
         ensures refused { IfErr result (λ why. (why ≡ Refusal.TooManySamples) × (most_samples < self.now.state.sums.n.0 + new)) }
     {
+        // as: usize has no From to u64
         if self.state.sums.n.number() + new as u64 > MOST_SAMPLES {
             return Err(Refusal::TooManySamples);
         }

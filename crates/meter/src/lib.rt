@@ -35,15 +35,16 @@ pub struct Report {
     pub mark: bool,
 }
 
-// What a call hands back: its answer and, beside it whether refused or not, the meter.
+// What a call hands back: its answer and, beside it, the meter. It is no Result with the meter in it, as
+// the calls of specs/Calls.antt (`handed_by`) have the meter beside a refusal too.
 #[derive(Clone, Copy)]
 pub struct Fed {
     pub answer: Result<(), Refusal>,
     pub meter: Meter,
 }
 
-// What a report call hands back: its answer, the meter, and the report, which is all zeros beside a
-// refusal.
+// What a report call hands back: its answer, the meter, and the report, which `reported_by` has beside a
+// refusal too, all zeros.
 #[derive(Clone, Copy)]
 pub struct Reported {
     pub answer: Result<(), Refusal>,

@@ -33,7 +33,8 @@ impl SystemError {
         self.0 == EINTR
     }
 
-    // What it means, for those that the programs can meet.
+    // What it means, for those that the programs can meet. It goes by the number and not by an ErrorKind,
+    // since any may come, and it is the number that is printed.
     fn meaning(self) -> &'static str {
         match self.0 {
             EINTR => ", interrupted too often",

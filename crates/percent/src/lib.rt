@@ -25,7 +25,7 @@ pub fn percentage(factor: Steps) -> Hundredths
     let top = level_of(WHOLE);
     let mut low = 0;
     let mut width = ABOVE_WHOLE;
-    // Not a range: the width halves with each turn.
+    // Not a range: it halves. A range of places would shift 1 anew at each, and is no plainer.
     while 1 < width {
         width /= 2;
         if passes(low + width, factor, top) {

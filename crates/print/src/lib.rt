@@ -95,7 +95,8 @@ impl Display for Totals {
     }
 }
 
-// Activity counts. They show by their numbers, and words are no quantity, so `Numbers` is another.
+// Activity counts. As one type with `Numbers`, over what can be displayed, `level` would print for its
+// types, for one loop saved: no plainer.
 #[derive(Clone, Copy)]
 pub struct Counts<'a>(pub &'a [Samples]);
 

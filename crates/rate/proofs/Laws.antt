@@ -1,4 +1,4 @@
--- What the crates above know of a named rate, whichever it is: `row_keeps`, `named_code` and `named_small`. Only this file goes through the table's rows.
+-- What the crates above know of a named rate, whichever it is: `row_keeps` and `named_small`. Only this file goes through the table's rows.
 use mathlib.Core.Bool.{Bool, true, false, cond}
 use Rattle.std.specs.Prelude.{Option, Some, None, is_some, unwrap_or}
 use mathlib.Core.Path.{◌≡◌, refl, sym, ap, subst}
@@ -68,9 +68,6 @@ named_keeps code r e =
     let f = named_figures code r e in
     record { k_low = f.0; k_high = f.1; time_rule = named_time code r e; i_rule = ceiling f.2 f.3; d_rule = ceiling f.4 f.5 }
 
-pub named_code : (code : ℕ) (r : Rate) → rate_of code ≡ Some r → r.code ≡ code
-named_code = each_row (λ code r. r.code ≡ code) (refl, refl, refl, refl, refl)
-
 -- ---- e, in the rule of the smoothing time
 
 -- no K passes both tests at one i, since e lies between them; with its two ends exchanged this can't be shown
@@ -120,13 +117,3 @@ named_small code n = from_rate code (each_row (λ c r. c < 256) (omega arith) co
 pub zero_unnamed : is_named 0 ≡ false
 unfolding is_named rate_of
 zero_unnamed = refl
-
--- ---- whether a code names a rate
-
-pub is_named_lem : (code : ℕ) (r : Rate) → rate_of code ≡ Some r → is_named code ≡ true
-unfolding is_named
-is_named_lem code r e = ap is_some e
-
-pub is_not_named : (code : ℕ) → rate_of code ≡ None → is_named code ≡ false
-unfolding is_named
-is_not_named code e = ap is_some e

@@ -56,7 +56,8 @@ impl Rate {
         d: 2881,
     };
 
-    // The rate that a code names, if any.
+    // The rate that a code names, if any. A code is a number, as blocks and C hosts give it, since refusals
+    // 1 and 2 speak of those that name no rate.
     #[tactic(auto, unfolding(crate::specs::Rates::rate_of))]
     pub fn of(code: u32) -> Option<Rate>
         ensures { result ≡ rate_of code }

@@ -17,7 +17,7 @@ pub enum Reply {
     Loaded,
     Meter(Meter),
     Lev(Option<Steps>),
-    Checked(u32),
+    Checked(u32), // what the C host's call gives
 }
 
 impl fmt::Display for Reply {
@@ -79,7 +79,7 @@ pub fn load(mut fields: Fields, meter: &mut Meter) -> Reply {
     *meter = Meter {
         setting: Setting {
             thresholds: Thresholds {
-                count: fields.u64() as usize,
+                count: fields.u64() as usize, // as: u64 has no From to usize
                 at: fields.numbers(),
             },
             ..setting

@@ -5,7 +5,8 @@ ghost use Rattle.replay.specs.Signed.{signed as signed_of};
 use coding::Number;
 
 // The bytes of a record that are not read yet. Each method reads the field that comes next,
-// little-endian, and zeros past the end.
+// little-endian, and zeros past the end. There is one for each width, named as main.rt names the fields:
+// one for all would be told the width at each call, and be no plainer.
 #[derive(Clone, Copy)]
 pub struct Fields<'a>(&'a [u8]);
 
@@ -51,7 +52,7 @@ impl<'a> Fields<'a> {
         self.0
     }
 
-    // All that is left as samples, as many as the buffer holds.
+    // All that is left as samples, as many as the buffer holds: of a lent buffer a part is handed back.
     pub fn samples<'b>(self, buffer: &'b mut [i16]) -> &'b [i16] {
         coding::decode(self.0, buffer);
         let count = buffer.len().min(self.0.len() / 2);
@@ -66,7 +67,7 @@ impl<'a> Fields<'a> {
     }
 }
 
-// The signed number that 64 bits stand for, two's complement.
+// The signed number that 64 bits stand for, two's complement: a function, for its clause.
 #[tactic(auto, unfolding(crate::specs::Signed::signed))]
 fn signed(word: u64) -> i64
     ensures { result ≡ signed_of word }

@@ -5,6 +5,7 @@ use crate::faults::Stop;
 use crate::fields::Fields;
 use crate::records::{Record, TOO_MANY_BYTES, TOO_MANY_IN_BLOCK};
 use coding::Number;
+use refusal::Refusal;
 use std::fmt;
 
 // Bytes of this number are in the buffer before the call.
@@ -26,7 +27,7 @@ impl Player {
         let mut lent = [HELD; TOO_MANY_BYTES];
         let held = lent.len().min(size);
         let answer = block::write(code, before, samples, &mut lent[..held]);
-        self.show(refusal::given(answer), size, &lent);
+        self.show(answer, size, &lent);
         Ok(())
     }
 
@@ -41,37 +42,39 @@ impl Player {
         Ok(field)
     }
 
-    // The number and the buffer of such a size. One longer than what is lent is shown piece by piece:
+    // The answer's number and the buffer of such a size. One longer than what is lent is shown piece by piece:
     // all of it is bytes of `HELD`.
-    fn show(&mut self, number: u32, size: usize, lent: &[u8; TOO_MANY_BYTES]) {
-        let mut number = Some(number);
+    fn show(&mut self, answer: Result<(), Refusal>, size: usize, lent: &[u8; TOO_MANY_BYTES]) {
+        let mut answer = Some(answer);
         let mut left = size;
-        // Not a slice in pieces: the one lent buffer stands for each.
+        // Not a slice in pieces: the one lent buffer stands for each. A range would need their number, by
+        // a division that leaves a full last one over: no plainer.
         while TOO_MANY_BYTES < left {
-            let number = number.take();
+            let answer = answer.take();
             self.streams.print(Piece {
-                number,
+                answer,
                 bytes: lent,
             });
             left -= TOO_MANY_BYTES;
         }
         let bytes = &lent[..left];
         self.streams
-            .print(format_args!("{}\n", Piece { number, bytes }));
+            .print(format_args!("{}\n", Piece { answer, bytes }));
     }
 }
 
-// A piece of the line: where it is the first, the number, and a space before a byte to show; then bytes in
+// A piece of the line: where it is the first, the answer's number, and a space before a byte to show; then bytes in
 // hexadecimal, two digits each, in lower case.
 #[derive(Clone, Copy)]
 struct Piece<'a> {
-    number: Option<u32>,
+    answer: Option<Result<(), Refusal>>,
     bytes: &'a [u8],
 }
 
 impl fmt::Display for Piece<'_> {
     fn fmt<W: fmt::Write>(&self, f: &mut fmt::Formatter<W>) -> fmt::Result {
-        if let Some(number) = self.number {
+        if let Some(answer) = self.answer {
+            let number = refusal::given(answer);
             let space = if self.bytes.is_empty() { "" } else { " " };
             write!(f, "write {number}{space}")?;
         }

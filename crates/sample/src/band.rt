@@ -58,7 +58,8 @@ impl<'a> Band<'a> {
         }
     }
 
-    // The band around an envelope that lies below this one.
+    // The band around an envelope that lies below this one. One loop for both ways takes more instructions
+    // a sample (docs/DECISIONS.md).
     fn fallen(self, q: u64) -> Band<'a>
         requires { q < self.low }
         ensures { Around self.entry.list.now q result }

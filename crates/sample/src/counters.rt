@@ -45,7 +45,7 @@ impl Counters {
     }
 
     // Settles the counters from one place up to another, where the envelope was at or above their
-    // thresholds, or below them.
+    // thresholds, or below them: `on` is a side, as the definitions have it.
     fn settle(&mut self, from: usize, to: usize, on: bool, at: u64)
         requires standing { Standing at self.old }
         requires places { (from ≤ to) × (to ≤ places) }

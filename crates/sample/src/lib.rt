@@ -41,7 +41,8 @@ pub struct Sums {
     pub q: u64,
 }
 
-// The sums and, for each threshold, the activity count a and the hangover h.
+// The sums and, for each threshold, the activity count a and the hangover h: two lists, as the definitions
+// have them.
 #[derive(Clone, Copy)]
 pub struct State {
     pub sums: Sums,
@@ -75,7 +76,7 @@ impl State {
             at = run.end;
             moving = run.last;
             let next = band.around(moving.q);
-            counters.cross(band, next, at as u64);
+            counters.cross(band, next, at as u64); // as: usize has no From to u64
             band = next;
         }
         counters.finish(band, at as u64);

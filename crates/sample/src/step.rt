@@ -61,7 +61,7 @@ impl Sums {
         ensures { result ≡ ended self last new }
     {
         Sums {
-            n: Samples::from(self.n.number() + new as u64),
+            n: Samples::from(self.n.number() + new as u64), // as: usize has no From to u64
             s: last.s,
             sq: self.sq.grown(last.sq),
             p: last.p,

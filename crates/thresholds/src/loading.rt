@@ -54,7 +54,8 @@ impl Thresholds {
         !(FEWEST..=PLACES).contains(&self.count) || self.is_filled_past_end()
     }
 
-    // Whether a place past the end is not zero.
+    // Whether a place past the end is not zero. That there are no more than places is a clause here and no
+    // invariant of a list: 19 refuses lists of which it does not hold.
     fn is_filled_past_end(&self) -> bool
         requires { self.now.count ≤ places }
         ensures { result ≡ some_from self.now.count places (filled self.now) }
