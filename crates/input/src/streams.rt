@@ -1,6 +1,7 @@
 // What a program reads and writes, together: all that waits is written before the program waits for
 // input.
 ghost use Rattle.std.specs.Prelude.{◌≡◌, ◌+◌, ◌-◌, ◌^◌, ◌%◌, ◌<◌, ◌≤◌, ◌↔◌, ◌≢◌, [], ◌++◌, length, take, drop, min, Ok, IsOk, IsErr, IsTrue};
+ghost use Rattle.page.specs.Page.{StaysFailed};
 ghost use Rattle.std.specs.Io.{StartsWith};
 ghost use Rattle.input.specs.declared.source.Coming.TheVariants.{More, End};
 
@@ -88,7 +89,7 @@ impl<const IN: usize, const OUT: usize> Streams<IN, OUT> {
         ensures place { place_of self.new ≡ (place_of self.old + (n - result)) % 2 ^ 64 }
         ensures none_left { 0 < result → unused_of self.new ≡ [] }
         ensures stopped { 0 < result → 0 < IN → IsOk (writing_of self.new) → reading_of self.new ≢ Ok More }
-        ensures failed { IsErr (writing_of self.old) → writing_of self.new ≡ writing_of self.old }
+        ensures failed { StaysFailed (writing_of self.old) (writing_of self.new) }
     {
         let mut left = n;
         // Not a range: each turn passes what a read brought.
@@ -140,7 +141,7 @@ impl<const IN: usize, const OUT: usize> Streams<IN, OUT> {
             → waiting_of self.new ≡ take OUT bytes.now }
         ensures unwritten { length (waiting_of self.old) + length bytes.now ≤ OUT
             → writing_of self.new ≡ writing_of self.old }
-        ensures failed { IsErr (writing_of self.old) → writing_of self.new ≡ writing_of self.old }
+        ensures failed { StaysFailed (writing_of self.old) (writing_of self.new) }
         ensures unused { unused_of self.new ≡ unused_of self.old }
     {
         self.page.put(&self.rt.stdout(), bytes);
@@ -148,7 +149,7 @@ impl<const IN: usize, const OUT: usize> Streams<IN, OUT> {
 
     // A line more, or a piece of one, that waits to be written.
     pub fn print<D: Display + Drop>(&mut self, line: D)
-        ensures failed { IsErr (writing_of self.old) → writing_of self.new ≡ writing_of self.old }
+        ensures failed { StaysFailed (writing_of self.old) (writing_of self.new) }
         ensures unused { unused_of self.new ≡ unused_of self.old }
     {
         self.page.print(&self.rt.stdout(), line);
@@ -162,7 +163,7 @@ impl<const IN: usize, const OUT: usize> Streams<IN, OUT> {
     // Writes all that waits, and says on standard error what failed, where something did.
     pub fn closed(&mut self, program: &str)
         ensures waiting { waiting_of self.new ≡ [] }
-        ensures failed { IsErr (writing_of self.old) → writing_of self.new ≡ writing_of self.old }
+        ensures failed { StaysFailed (writing_of self.old) (writing_of self.new) }
     {
         if let Err(error) = self.source.reading {
             let bytes = self.source.read;

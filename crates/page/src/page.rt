@@ -3,8 +3,8 @@
 // write into one pipe or one log. A longer line than a page comes in pieces: only the line that shows
 // a buffer of more than 513 bytes is put so. In `blocks` what waits are blocks, on a page of its own
 // size.
-ghost use Rattle.std.specs.Prelude.{◌≡◌, ◌+◌, ◌<◌, ◌≤◌, ◌↔◌, [], ◌++◌, length, take, IsOk, IsErr, IsTrue};
-ghost use Rattle.page.specs.Page.{waiting_of, writing_of};
+ghost use Rattle.std.specs.Prelude.{◌≡◌, ◌+◌, ◌<◌, ◌≤◌, ◌↔◌, [], ◌++◌, length, take, IsOk, IsTrue};
+ghost use Rattle.page.specs.Page.{waiting_of, writing_of, StaysFailed};
 
 use crate::SystemError;
 use crate::sending::sent;
@@ -29,7 +29,8 @@ impl<const N: usize> Write for Waiting<N> {
     }
 }
 
-// What waits to be written, and how writing goes: well, or a write failed.
+// What waits to be written, and how writing goes: well, or a write failed. A page knows no descriptor:
+// who prints is lent to each method that may write.
 #[derive(Drop)]
 pub struct Page<const N: usize> {
     waiting: Waiting<N>,
@@ -58,7 +59,7 @@ impl<const N: usize> Page<N> {
             → waiting_of self.new ≡ take N bytes.now }
         ensures unwritten { length (waiting_of self.old) + length bytes.now ≤ N
             → writing_of self.new ≡ writing_of self.old }
-        ensures failed { IsErr (writing_of self.old) → writing_of self.new ≡ writing_of self.old }
+        ensures failed { StaysFailed (writing_of self.old) (writing_of self.new) }
     {
         if self.waiting.bytes.try_extend_from_slice(bytes).is_err() {
             self.write_out(to);
@@ -69,7 +70,7 @@ impl<const N: usize> Page<N> {
 
     // Puts a line, or a piece of one, likewise: of one that is longer than a page, the parts that fit.
     pub fn print<P: Print, D: Display + Drop>(&mut self, to: &P, line: D)
-        ensures failed { IsErr (writing_of self.old) → writing_of self.new ≡ writing_of self.old }
+        ensures failed { StaysFailed (writing_of self.old) (writing_of self.new) }
     {
         let before = self.waiting.bytes.len();
         if write!(self.waiting, "{line}").is_err() {
@@ -83,7 +84,7 @@ impl<const N: usize> Page<N> {
     pub fn write_out<P: Print>(&mut self, to: &P)
         ensures waiting { waiting_of self.new ≡ [] }
         ensures idle { waiting_of self.old ≡ [] → writing_of self.new ≡ writing_of self.old }
-        ensures failed { IsErr (writing_of self.old) → writing_of self.new ≡ writing_of self.old }
+        ensures failed { StaysFailed (writing_of self.old) (writing_of self.new) }
     {
         if self.is_well() {
             self.writing = sent(to, self.waiting.bytes.as_slice());

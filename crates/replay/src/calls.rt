@@ -1,4 +1,5 @@
-// What each record asks, but for one that makes a block, and the line that answers it.
+// What each record asks, but for one that makes a block, and the line that answers it. The functions are
+// no methods of `Player`, from whose input the fields are still borrowed.
 use crate::fields::Fields;
 use crate::records::{BUILT_IN, TOO_MANY_SAMPLES, TOO_MANY_THRESHOLDS};
 use level::{Samples, Squares, Steps};

@@ -42,13 +42,13 @@ impl Player {
         Ok(field)
     }
 
-    // The answer's number and the buffer of such a size. One longer than what is lent is shown piece by piece:
-    // all of it is bytes of `HELD`.
+    // The answer's number and the buffer of such a size. One longer than what is lent is shown piece
+    // by piece: all of it is bytes of `HELD`.
     fn show(&mut self, answer: Result<(), Refusal>, size: usize, lent: &[u8; TOO_MANY_BYTES]) {
         let mut answer = Some(answer);
         let mut left = size;
-        // Not a slice in pieces: the one lent buffer stands for each. A range would need their number, by
-        // a division that leaves a full last one over: no plainer.
+        // No loop over the pieces of a slice, as the one lent buffer stands for each of them. To count them
+        // would take a division that leaves a last one over, full or not, and be no plainer.
         while TOO_MANY_BYTES < left {
             let answer = answer.take();
             self.streams.print(Piece {
@@ -63,8 +63,8 @@ impl Player {
     }
 }
 
-// A piece of the line: where it is the first, the answer's number, and a space before a byte to show; then bytes in
-// hexadecimal, two digits each, in lower case.
+// A piece of the line: where it is the first, the answer's number, and a space before a byte to show;
+// then bytes in hexadecimal, two digits each, in lower case.
 #[derive(Clone, Copy)]
 struct Piece<'a> {
     answer: Option<Result<(), Refusal>>,
