@@ -4,7 +4,8 @@ ghost use Rattle.std.proofs.lemmas.List.Edits.{sets};
 ghost use Rattle.coding.specs.Numbers.{bytes_of};
 ghost use Rattle.coding.specs.Samples.{bytes_of_samples};
 
-// A number, in so many bytes. By hand, since of any size, where to_le_bytes ends at the word's.
+// A number, in so many bytes. There may be more of them than `to_le_bytes` gives, so they are worked out
+// here.
 #[tactic(auto, using(crate::proofs::Parts::number_turn, crate::proofs::Parts::number_end))]
 pub fn put_number(buffer: &mut [u8], at: usize, size: usize, x: u64)
     ensures { buffer.new ≡ sets buffer.old at (bytes_of size x) }

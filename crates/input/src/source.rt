@@ -100,7 +100,7 @@ impl<const N: usize> Source<N> {
         ensures ended { result ≡ Ok End → IsAtEnd (R.remaining from.new) }
     {
         let mut tries = Tries::new();
-        // Not a range: the system gives as much at a time as it has.
+        // The system gives as much at a time as it has, so how many turns there are is not known before.
         while self.end < enough.min(N) {
             let buffer = &mut self.buffer[..];
             match from.read(&mut buffer[self.end..]) {

@@ -1,7 +1,7 @@
 // What a program reads and writes, together: all that waits is written before the program waits for
 // input.
-ghost use Rattle.std.specs.Prelude.{◌≡◌, ◌+◌, ◌-◌, ◌^◌, ◌%◌, ◌<◌, ◌≤◌, ◌↔◌, ◌≢◌, [], ◌++◌, length, take, drop, min, Ok, IsOk, IsErr, IsTrue};
-ghost use Rattle.page.specs.Page.{StaysFailed};
+ghost use Rattle.std.specs.Prelude.{◌≡◌, ◌+◌, ◌-◌, ◌^◌, ◌%◌, ◌<◌, ◌≤◌, ◌↔◌, ◌≢◌, [], length, take, drop, min, Ok, IsOk, IsErr, IsTrue};
+ghost use Rattle.page.specs.Page.{StaysFailed, IsPut};
 ghost use Rattle.std.specs.Io.{StartsWith};
 ghost use Rattle.input.specs.declared.source.Coming.TheVariants.{More, End};
 
@@ -92,7 +92,7 @@ impl<const IN: usize, const OUT: usize> Streams<IN, OUT> {
         ensures failed { StaysFailed (writing_of self.old) (writing_of self.new) }
     {
         let mut left = n;
-        // Not a range: each turn passes what a read brought.
+        // Each turn passes what a read brought, so how many there are is not known before.
         while 0 < left {
             self.ready(1);
             let count = left.min(self.unused());
@@ -135,13 +135,7 @@ impl<const IN: usize, const OUT: usize> Streams<IN, OUT> {
 
     // Bytes more that wait to be written.
     pub fn put(&mut self, bytes: &[u8])
-        ensures behind { length (waiting_of self.old) + length bytes.now ≤ OUT
-            → waiting_of self.new ≡ waiting_of self.old ++ bytes.now }
-        ensures full { OUT < length (waiting_of self.old) + length bytes.now
-            → waiting_of self.new ≡ take OUT bytes.now }
-        ensures unwritten { length (waiting_of self.old) + length bytes.now ≤ OUT
-            → writing_of self.new ≡ writing_of self.old }
-        ensures failed { StaysFailed (writing_of self.old) (writing_of self.new) }
+        ensures put { IsPut OUT bytes.now (waiting_of self.old) (waiting_of self.new) (writing_of self.old) (writing_of self.new) }
         ensures unused { unused_of self.new ≡ unused_of self.old }
     {
         self.page.put(&self.rt.stdout(), bytes);

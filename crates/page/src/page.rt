@@ -3,8 +3,8 @@
 // write into one pipe or one log. A longer line than a page comes in pieces: only the line that shows
 // a buffer of more than 513 bytes is put so. In `blocks` what waits are blocks, on a page of its own
 // size.
-ghost use Rattle.std.specs.Prelude.{◌≡◌, ◌+◌, ◌<◌, ◌≤◌, ◌↔◌, [], ◌++◌, length, take, IsOk, IsTrue};
-ghost use Rattle.page.specs.Page.{waiting_of, writing_of, StaysFailed};
+ghost use Rattle.std.specs.Prelude.{◌≡◌, ◌↔◌, [], ◌++◌, IsOk, IsTrue};
+ghost use Rattle.page.specs.Page.{waiting_of, writing_of, StaysFailed, IsPut};
 
 use crate::SystemError;
 use crate::sending::sent;
@@ -53,13 +53,7 @@ impl<const N: usize> Page<N> {
 
     // Puts bytes behind what waits, after a write where there is no room for them.
     pub fn put<P: Print>(&mut self, to: &P, bytes: &[u8])
-        ensures behind { length (waiting_of self.old) + length bytes.now ≤ N
-            → waiting_of self.new ≡ waiting_of self.old ++ bytes.now }
-        ensures full { N < length (waiting_of self.old) + length bytes.now
-            → waiting_of self.new ≡ take N bytes.now }
-        ensures unwritten { length (waiting_of self.old) + length bytes.now ≤ N
-            → writing_of self.new ≡ writing_of self.old }
-        ensures failed { StaysFailed (writing_of self.old) (writing_of self.new) }
+        ensures { IsPut N bytes.now (waiting_of self.old) (waiting_of self.new) (writing_of self.old) (writing_of self.new) }
     {
         if self.waiting.bytes.try_extend_from_slice(bytes).is_err() {
             self.write_out(to);

@@ -11,7 +11,7 @@ pub fn sent<P: Print>(to: &P, bytes: &[u8]) -> Result<(), SystemError>
 {
     let mut rest = bytes;
     let mut tries = Tries::new();
-    // Not a range: the system takes as much at a time as it will.
+    // The system takes as much at a time as it will, so how many turns there are is not known before.
     while !rest.is_empty() {
         match to.write_some(rest) {
             Ok(0) => return Err(io::Error::from(ErrorKind::WriteZero).into()),

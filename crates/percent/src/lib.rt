@@ -25,7 +25,8 @@ pub fn percentage(factor: Steps) -> Hundredths
     let top = level_of(WHOLE);
     let mut low = 0;
     let mut width = ABOVE_WHOLE;
-    // Not a range: it halves. A range of places would shift 1 anew at each, and is no plainer.
+    // The width says when to stop, so no turns are counted. A `for` over the fourteen places would work
+    // each width out again, and be no plainer.
     while 1 < width {
         width /= 2;
         if passes(low + width, factor, top) {

@@ -65,7 +65,7 @@ impl<'a> Band<'a> {
         ensures { Around self.entry.list.now q result }
     {
         let mut band = self;
-        // Not a range: from band to band, until one begins low enough.
+        // How many bands lie between is not known before, so no `for` goes over them.
         while q < band.low {
             band = band.down();
         }
@@ -78,7 +78,7 @@ impl<'a> Band<'a> {
         ensures { Around self.entry.list.now q result }
     {
         let mut band = self;
-        // Not a range: from band to band, until one ends high enough.
+        // As in `fallen`, no `for` goes over the bands.
         while band.high <= q {
             band = band.up();
         }

@@ -70,7 +70,7 @@ impl State {
             i: by.i,
         };
         let mut at = 0;
-        // Not a range: where a run ends is found as it is taken.
+        // Where a run ends is known only once it is taken, so no `for` goes over the runs.
         while at < xs.len() {
             let run = run_on(moving, by, band, xs, at);
             at = run.end;

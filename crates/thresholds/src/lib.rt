@@ -67,7 +67,7 @@ impl Thresholds {
 
 // Doubles out the places up to j of a list of zeros: the first is one interval, each next is twice the one
 // before. It calls itself since of a loop the compiler would make fifteen constants,
-// which a table of thresholds would be.
+// and these are a table of the thresholds.
 fn double_up_to(at: &mut [u64; PLACES], j: usize)
     requires { (j < built_in_count) × (at.old ≡ each places (λ _. 0)) }
     ensures { at.new ≡ each places (up_to (j + 1) doubled) }
