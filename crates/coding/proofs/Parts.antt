@@ -1,7 +1,7 @@
 -- Bytes into a buffer, one part after another, and the loops that put them there, a turn each.
 use mathlib.Core.List.{List, [], ◌∷◌, ◌++◌, append-nil, append_assoc}
 use mathlib.Core.Path.{◌≡◌, refl, sym, ap, ap₂, ◌∙◌}
-use Prim.Native.Nat.{ℕ, suc, ◌+◌, ◌-◌, ◌*◌, ◌/◌, ◌%◌, ◌≤◌, ◌<◌, min}
+use Prim.Native.Nat.{ℕ, suc, ◌+◌, ◌-◌, ◌/◌, ◌%◌, ◌≤◌, ◌<◌, min}
 use native.Mathlib.Nat.{add-zero}
 use native.Mathlib.Numerals.{add-one}
 use native.Mathlib.Omega.{arith}
@@ -9,8 +9,6 @@ use lib.IntN.{ℤ, pos}
 use lib.ListN.{length, get_or, take, drop, set, replicate, length-take, length-drop, drop_of_length-le}
 use lib.Seq.{sets, sets-eq, set_out, length-sets, drop-cons}
 use borrow.Rule.Slice.PartMut.{put_mid}
-use Rattle.std.proofs.Common.{⊎_elim}
-use Rattle.std.proofs.lemmas.Bool.{cases_lt}
 use Rattle.std.proofs.lemmas.List.Edits.{paste_all}
 use Rattle.std.proofs.lemmas.List.{length-replicate, replicate-append-replicate}
 use Rattle.std.proofs.lemmas.Slice.{put_mid-paste}
@@ -41,10 +39,6 @@ sets_out l (v ∷ vs) i h = ap (λ (m : List ℕ). sets m (suc i) vs) (set_out l
 pub left_off : (l vs : List ℕ) (at end : ℕ) → length vs ≡ end - at → min end (length l) ≤ at → sets l at vs ≡ l
 left_off l [] at end e h = refl
 left_off l (v ∷ vs) at end e h = sets_out l (v ∷ vs) at (omega arith)
-
--- so a place past the end may be taken for another
-topped : (l vs : List ℕ) (place top : ℕ) → length l ≤ top → sets l (min place top) vs ≡ sets l place vs
-topped l vs place top h = ⊎_elim (λ p. ap (λ (k : ℕ). sets l k vs) (omega arith)) (λ p. sets_out l vs (min place top) (omega arith) ∙ sym (sets_out l vs place (omega arith))) (cases_lt place top)
 
 -- ---- a number: what is left of it, from the place that is reached
 
@@ -91,17 +85,18 @@ zeros_front l ws at end last e h f =
     ∙ sym (sets-eq front l at (omega arith))
     ∙ zeros_more l at k end (omega arith) (omega arith)
 
--- ---- samples: what is left of them, from the place of the next, which is at most `top`
+-- ---- samples: what is left of them, from the place that is reached
 
-pub samples_turn : (l : List ℕ) (xs : List ℤ) (at j top : ℕ) → j < length xs → length l ≤ top
-    → sets (sets l (min (at + 2 * j) top) (bytes_of 2 (word_of (get_or xs j (pos 0))))) (at + 2 * (j + 1)) (bytes_of_samples (drop (j + 1) xs))
-    ≡ sets l (at + 2 * j) (bytes_of_samples (drop j xs))
+pub samples_turn : (l : List ℕ) (xs : List ℤ) (place j : ℕ) → j < length xs
+    → sets (sets l place (bytes_of 2 (word_of (get_or xs j (pos 0))))) (place + 2) (bytes_of_samples (drop (j + 1) xs)) ≡ sets l place (bytes_of_samples (drop j xs))
 unfolding bytes_of_samples
-samples_turn l xs at j top h t =
+samples_turn l xs place j h =
     let w = bytes_of 2 (word_of (get_or xs j (pos 0))) in
-    let rest = bytes_of_samples (drop (suc j) xs) in
-    let next : at + 2 * (j + 1) ≡ at + 2 * j + length w = omega (arith, bytes_length 2 (word_of (get_or xs j (pos 0)))) in
-    ap₂ (λ (b : List ℕ) (k : ℕ). sets b k (bytes_of_samples (drop (j + 1) xs))) (topped l w (at + 2 * j) top t) next
-    ∙ ap (λ (k : ℕ). sets (sets l (at + 2 * j) w) (at + 2 * j + length w) (bytes_of_samples (drop k xs))) (add-one j)
-    ∙ sets_append l (at + 2 * j) w rest
-    ∙ ap (λ (ys : List ℤ). sets l (at + 2 * j) (bytes_of_samples ys)) (sym (drop-cons xs j (pos 0) h))
+    let next : place + 2 ≡ place + length w = ap (λ (k : ℕ). place + k) (sym (bytes_length 2 (word_of (get_or xs j (pos 0))))) in
+    ap₂ (λ (k i : ℕ). sets (sets l place w) k (bytes_of_samples (drop i xs))) next (add-one j)
+    ∙ sets_append l place w (bytes_of_samples (drop (suc j) xs))
+    ∙ ap (λ (ys : List ℤ). sets l place (bytes_of_samples ys)) (sym (drop-cons xs j (pos 0) h))
+
+pub samples_end : (l : List ℕ) (xs : List ℤ) (place j : ℕ) → length xs ≤ j → sets l place (bytes_of_samples (drop j xs)) ≡ l
+unfolding bytes_of_samples
+samples_end l xs place j h = ap (λ (ys : List ℤ). sets l place (bytes_of_samples ys)) (drop_of_length-le xs h)

@@ -2,7 +2,7 @@
 ghost use Rattle.std.specs.Prelude.{◌≡◌, ◌-◌, replicate};
 ghost use Rattle.std.proofs.lemmas.List.Edits.{sets};
 ghost use Rattle.coding.specs.Numbers.{bytes_of};
-ghost use Rattle.coding.specs.Samples.{bytes_of_samples};
+ghost use Rattle.coding.specs.Samples.{word_of, bytes_of_samples};
 
 // A number, in so many bytes. There may be more of them than `to_le_bytes` gives, so they are worked out
 // here.
@@ -19,12 +19,17 @@ pub fn put_number(buffer: &mut [u8], at: usize, size: usize, x: u64)
 }
 
 // Samples, two bytes each.
+#[tactic(auto, using(crate::proofs::Parts::samples_turn, crate::proofs::Parts::samples_end, crate::proofs::Parts::sets_out))]
 pub fn put_samples(buffer: &mut [u8], at: usize, samples: &[i16])
     ensures { buffer.new ≡ sets buffer.old at (bytes_of_samples samples.now) }
 {
-    for (j, sample) in samples.iter().enumerate() {
-        let place = at.saturating_add(2 * j);
-        put_number(buffer, place, 2, sample.cast_unsigned().into());
+    let mut place = at;
+    for sample in samples {
+        if buffer.len() <= place {
+            return;
+        }
+        put_number(buffer, place, 2, word(*sample));
+        place += 2;
     }
 }
 
@@ -37,4 +42,12 @@ pub fn put_zeros(buffer: &mut [u8], at: usize, end: usize)
     if at < last {
         buffer[at..last].fill(0);
     }
+}
+
+// The word of a sample: two's complement.
+#[tactic(auto, using(crate::proofs::Bytes::word_cast))]
+fn word(x: i16) -> u64
+    ensures { result ≡ word_of x }
+{
+    x.cast_unsigned().into()
 }
