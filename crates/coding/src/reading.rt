@@ -21,7 +21,7 @@ impl Number for u8 {
 
     #[tactic(auto, using(crate::proofs::Numbers::one_byte))]
     fn read(bytes: &[u8], at: usize) -> u8 {
-        u8::from_le_bytes(bytes_at(bytes, at))
+        bytes.get(at).copied().unwrap_or(0)
     }
 }
 
@@ -52,8 +52,10 @@ fn bytes_at<const N: usize>(bytes: &[u8], at: usize) -> [u8; N]
     ensures { (k : ℕ) → k < N → slice_index result k ≡ slice_index bytes.now (at + k) }
 {
     let rest = &bytes[at.min(bytes.len())..];
-    let count = rest.len().min(N);
+    if let Some(part) = rest.first_chunk() {
+        return *part;
+    }
     let mut part = [0; N];
-    part[..count].copy_from_slice(&rest[..count]);
+    part[..rest.len()].copy_from_slice(rest);
     part
 }
