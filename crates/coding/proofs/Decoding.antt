@@ -2,23 +2,21 @@
 use mathlib.Core.Bool.{cond}
 use mathlib.Core.List.{List, [], ◌∷◌, ◌++◌}
 use mathlib.Core.Path.{◌≡◌, sym, ap, ap₂, ◌∙◌, subst}
-use Prim.Native.Nat.{ℕ, zero, suc, ◌+◌, ◌-◌, ◌*◌, ◌/◌, ◌^◌, ◌≤◌, ◌<◌}
+use Prim.Native.Nat.{ℕ, zero, suc, ◌+◌, ◌-◌, ◌*◌, ◌^◌, ◌<◌}
 use native.Mathlib.Omega.{arith}
 use native.Mathlib.Nat.{add-zero, zero-add}
 use native.Mathlib.Numerals.{add-one}
 use lib.Dec.{ltb}
 use lib.IntN.{ℤ, pos, neg_ℤ}
-use lib.ListN.{length, take, drop, get_or, set}
-use lib.Seq.{get_or-take, drop-cons, append_snoc, set_at}
+use lib.ListN.{length, drop, get_or, set}
+use lib.Seq.{drop-cons, append_snoc, set_at}
 use mir.Syntax.{w8, w16}
 use mir.Facts.{to_z-of_z}
 use mir.Val.{Fits, SFits, to_z, of_z}
 use Rattle.std.specs.Int.{from_le_bytes}
-use Rattle.std.specs.Simd.{first_chunks}
 use Rattle.coding.specs.Numbers.{number_at}
 use Rattle.coding.specs.Samples.{signed, samples_at}
 use Rattle.coding.proofs.Laws.{samples_at_length, signed_fits}
-use Rattle.coding.proofs.Numbers.{pair_number}
 
 -- the sample of a word, as the library's cast has it
 cast : (w : ℕ) → w < 2 ^ 16 → to_z w16 w ≡ signed w
@@ -27,15 +25,12 @@ cast w h =
     let e : 2 ^ 16 - w ≡ suc (2 ^ 16 - suc w) = omega arith in
     sym (ap (λ (n : ℕ). cond (ltb w (2 ^ 15)) (pos w) (neg_ℤ (pos n))) e)
 
--- the sample in a pair of bytes
-pub pair_sample : (b : List ℕ) (pairs : List (List ℕ)) (n j : ℕ) (d : List ℕ)
-    → pairs ≡ first_chunks 2 (length b / 2) b → ((i : ℕ) → Fits w8 (get_or b i 0)) → j < n → n ≤ length b / 2
-    → to_z w16 (from_le_bytes w16 (get_or (take n pairs) j d)) ≡ signed (number_at b (2 * j) 2)
+-- the sample of two bytes
+pub sample_of : (p : List ℕ) → ((i : ℕ) → Fits w8 (get_or p i 0)) → to_z w16 (from_le_bytes w16 p) ≡ signed (number_at p 0 2)
 unfolding number_at
-pair_sample b pairs n j d e small h m =
-    ap (λ (p : List ℕ). to_z w16 (from_le_bytes w16 p)) (get_or-take n pairs j d h)
-    ∙ ap (to_z w16) (pair_number b pairs j d e (omega arith))
-    ∙ cast (number_at b (2 * j) 2) (omega (arith, (small (2 * j)).fits, (small (2 * j + 1)).fits))
+sample_of p small =
+    let e : from_le_bytes w16 p ≡ number_at p 0 2 = omega arith in
+    ap (to_z w16) e ∙ cast (number_at p 0 2) (omega (arith, (small 0).fits, (small 1).fits))
 
 -- one sample more
 last : (b : List ℕ) (at k : ℕ) → samples_at b at (suc k) ≡ samples_at b at k ++ (signed (number_at b (at + 2 * k) 2) ∷ [])

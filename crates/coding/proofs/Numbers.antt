@@ -1,7 +1,7 @@
 -- Numbers by their bytes.
 use mathlib.Core.List.{List}
 use mathlib.Core.Path.{◌≡◌, refl, sym, ap, ap₂, ◌∙◌}
-use Prim.Native.Nat.{ℕ, zero, suc, ◌+◌, ◌*◌, ◌/◌, ◌<◌}
+use Prim.Native.Nat.{ℕ, zero, suc, ◌+◌, ◌*◌, ◌/◌, ◌≤◌, ◌<◌}
 use native.Mathlib.Omega.{arith}
 use native.Mathlib.Nat.{add_assoc, add-zero}
 use lib.ListN.{length, get_or, take, drop}
@@ -47,8 +47,10 @@ pair b (suc k) (suc j) d h =
     let e : 2 + 2 * j ≡ 2 * suc j = omega arith in
     pair (drop 2 b) k j d (omega arith) ∙ ap (take 2) (drop-drop (2 * j) 2 b ∙ ap (λ (n : ℕ). drop n b) e)
 
-pub pair_number : (b : List ℕ) (pairs : List (List ℕ)) (j : ℕ) (d : List ℕ)
-    → pairs ≡ first_chunks 2 (length b / 2) b → j < length b / 2 → from_le_bytes w16 (get_or pairs j d) ≡ number_at b (2 * j) 2
-pair_number b pairs j d e h =
-    let at : get_or pairs j d ≡ take 2 (drop (2 * j) b) = ap (λ (q : List (List ℕ)). get_or q j d) e ∙ pair b (length b / 2) j d h in
-    two_bytes (get_or pairs j d) b (2 * j) (λ i l. ap (λ (q : List ℕ). get_or q i 0) at ∙ get_or-take 2 (drop (2 * j) b) i 0 l ∙ get_or-drop (2 * j) b i 0)
+pub pair_number : (b : List ℕ) (pairs : List (List ℕ)) (n j : ℕ) (d : List ℕ)
+    → pairs ≡ first_chunks 2 (length b / 2) b → j < n → n ≤ length b / 2 → number_at (get_or (take n pairs) j d) 0 2 ≡ number_at b (2 * j) 2
+pair_number b pairs n j d e h m =
+    let at : get_or (take n pairs) j d ≡ take 2 (drop (2 * j) b) =
+    get_or-take n pairs j d h ∙ ap (λ (q : List (List ℕ)). get_or q j d) e ∙ pair b (length b / 2) j d (omega arith)
+    in
+    whole (get_or (take n pairs) j d) b (2 * j) 2 (λ i l. ap (λ (q : List ℕ). get_or q i 0) at ∙ get_or-take 2 (drop (2 * j) b) i 0 l ∙ get_or-drop (2 * j) b i 0)

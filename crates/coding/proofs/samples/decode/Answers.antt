@@ -1,7 +1,8 @@
 -- Each turn gives one place more its sample, and the last turn is the smaller of the two lengths.
 use Rattle.std.proofs.Common.{◌≡◌, ◌/◌, ◌<◌, ◌++◌, ℕ, [], min, length, drop, length-take, refl, ap, ◌∙◌, arith}
-use Rattle.coding.specs.Samples.{samples_at, decoded_into}
-use Rattle.coding.proofs.Decoding.{pair_sample, one_more}
+use Rattle.coding.specs.Samples.{signed, samples_at, decoded_into}
+use Rattle.coding.proofs.Decoding.{one_more}
+use Rattle.coding.proofs.Numbers.{pair_number}
 use Rattle.coding.proofs.samples.decode.Goals as goal
 
 pub loop-j-init : goal.loop-j-init
@@ -16,7 +17,7 @@ loop-j-preserved c =
     let n = c.min-count.result in
     let within : l.j < n = omega (arith, length-take n pairs) in
     one_more c.args.bytes.now c.args.samples.now l.samples l.j _ l.invariant (omega arith)
-    (c.from_le_bytes.ensures ∙ pair_sample c.args.bytes.now pairs n l.j [] k.front c.type_inv.bytes within (omega (arith, k.front_len)))
+    (c.sample.ensures ∙ ap signed (pair_number c.args.bytes.now pairs n l.j [] k.front within (omega (arith, k.front_len))))
 
 pub returns : goal.returns
 unfolding decoded_into
