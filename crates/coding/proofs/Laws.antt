@@ -12,7 +12,7 @@ use lib.IntN.{ℤ, pos, negsuc, neg_ℤ}
 use mir.Syntax.{w16}
 use mir.Val.{SFits}
 use lib.Signed.{le_z}
-use lib.ListN.{length, get_or, take, drop}
+use lib.ListN.{length, get_or, take, drop, length-drop, length-append}
 use lib.Seq.{take_at}
 use Rattle.coding.specs.Samples.{signed, samples_at, decoded_into}
 use Rattle.coding.specs.Typed.{AllSamples, AllBytes}
@@ -24,6 +24,13 @@ samples_at_length b at zero = refl
 samples_at_length b at (suc k) = ap suc (samples_at_length b (at + 2) k)
 
 -- ---- a buffer that samples were put into
+
+-- keeps its length
+pub decoded_length : (b : List ℕ) (xs : List ℤ) → length (decoded_into b xs) ≡ length xs
+unfolding decoded_into
+decoded_length b xs =
+    let k = min (length b / 2) (length xs) in
+    length-append (samples_at b 0 k) (drop k xs) ∙ omega (arith, samples_at_length b 0 k, length-drop k xs)
 
 -- and where all samples found room, they are its first
 pub decoded_first : (b : List ℕ) (xs : List ℤ) → length b / 2 ≤ length xs → take (length b / 2) (decoded_into b xs) ≡ samples_at b 0 (length b / 2)

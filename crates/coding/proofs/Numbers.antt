@@ -4,7 +4,7 @@ use mathlib.Core.Path.{◌≡◌, refl, sym, ap, ap₂, ◌∙◌}
 use Prim.Native.Nat.{ℕ, zero, suc, ◌+◌, ◌*◌, ◌/◌, ◌≤◌, ◌<◌}
 use native.Mathlib.Omega.{arith}
 use native.Mathlib.Nat.{add_assoc, add-zero}
-use lib.ListN.{length, get_or, take, drop}
+use lib.ListN.{length, get_or, take, drop, get_or-eq_default}
 use lib.Seq.{get_or-take, get_or-drop, drop-drop}
 use mir.Syntax.{w16, w64}
 use Rattle.std.specs.Int.{from_le_bytes}
@@ -14,6 +14,10 @@ use Rattle.coding.specs.Numbers.{number_at}
 pub one_byte : (b : List ℕ) (at : ℕ) → get_or b at 0 ≡ number_at b at 1
 unfolding number_at
 one_byte b at = omega arith
+
+-- a byte past the end
+pub no_byte : (b : List ℕ) (at : ℕ) → length b ≤ at → 0 ≡ number_at b at 1
+no_byte b at h = sym (get_or-eq_default b 0 h) ∙ one_byte b at
 
 -- the bytes of p are those of b from a place on, as many as size says
 abbrev pub IsPart : List ℕ → List ℕ → ℕ → ℕ → Type 0
