@@ -11,7 +11,7 @@ use Rattle.std.proofs.lemmas.Bool.Decides.{nat_tests}
 use Rattle.std.proofs.lemmas.Int.{ints}
 use Rattle.level.specs.Types.{activity}
 use Rattle.level.specs.declared.Samples.{Samples}
-use Rattle.level.proofs.Laws.{facts}
+use Rattle.level.proofs.Laws.{facts, uncut}
 use Rattle.crossing.specs.Crossing.{floor_over}
 use Rattle.crossing.specs.Inner.FindLevels.{Falling}
 use Rattle.crossing.specs.Levels.{active_at}
@@ -40,4 +40,4 @@ part r x w h = div-le_of_le-mul w (le_trans (mul-le-mul_left r (le_of_lt h)) (om
 pub part_small : (r x w : ℕ) → r ≤ 2 ^ 22 → x ≤ 2 ^ 22 → r * x / w ≤ 2 ^ 44
 part_small r x w h l = le_trans (div-le_self (r * x) w) (le_trans (mul-le-mul h l) (omega arith))
 
-pub ruleset between = (floored, part_small)
+pub ruleset between = (floored, part_small, uncut)

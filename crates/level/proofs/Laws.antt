@@ -5,7 +5,9 @@ use native.Mathlib.Nat.{one-le-pow, pow-le-pow_left, lt-div-mul-add}
 use native.Mathlib.Decide.{dec_le}
 use lib.Pow.{shr_mono}
 use Rattle.std.proofs.lemmas.Bool.Decides.{nat_tests}
-use Rattle.std.specs.Prelude.{Option, Some, None}
+use Rattle.std.proofs.lemmas.Int.{ints}
+use Rattle.std.specs.Int.{w64, saturate_signed}
+use Rattle.std.specs.Prelude.{ℤ, nat_abs, Option, Some, None}
 use Rattle.level.specs.Logarithm.{place_up_to, place, spell, start, lev, level_of, value_of, steps_in, Facts}
 use Rattle.level.specs.declared.Steps.{Steps}
 use Rattle.std.proofs.lemmas.Nat.{mul-pow}
@@ -134,3 +136,8 @@ pub level_known : (n : ℕ) (r : Option Steps) → 1 ≤ n → n ≤ 2 ^ 80 → 
 unfolding value_of
 level_known n (Some s) h u e = let q = e ∙ level_exists n h u in cc
 level_known n None h u e = let q = e ∙ level_exists n h u in cc
+
+-- ---- a sum or a difference of steps that the ends of 64 bits do not cut is itself
+
+pub uncut : (x : ℤ) → nat_abs x < 2 ^ 63 → saturate_signed w64 x ≡ x
+uncut x h = grind (arith, ints)

@@ -3,8 +3,8 @@
 // leads from the first three to the last.
 #![tactic(auto)]
 
-ghost use Rattle.std.specs.Prelude.{◌≡◌, ℕ, ◌<◌, ◌+ℤ◌, ◌-ℤ◌, FitsSigned};
-ghost use Rattle.std.specs.Int.{w64};
+ghost use Rattle.std.specs.Prelude.{◌≡◌, ℕ, ◌<◌, ◌+ℤ◌, ◌-ℤ◌};
+ghost use Rattle.std.specs.Int.{w64, saturate_signed};
 ghost use Rattle.level.specs.Logarithm.{spell, level_of, value_of, steps_in};
 ghost use Rattle.level.specs.Types.{samples_of, hundredths_of, units_of, steps_of, two_words, grown};
 
@@ -54,27 +54,25 @@ impl From<Steps> for i64 {
     }
 }
 
+// A sum, or a difference, that fits 64 bits is given as it is, and in place of another the nearest end of
+// them: `saturate_signed` says both, and a caller is asked for nothing.
 impl Add for Steps {
     type Output = Steps;
 
-    ghost can_add = { λ x y. FitsSigned w64 (x.0 +ℤ y.0) };
-
-    ghost add_gives = { λ x y r. r ≡ steps_of (x.0 +ℤ y.0) };
+    ghost add_gives = { λ x y r. r ≡ steps_of (saturate_signed w64 (x.0 +ℤ y.0)) };
 
     fn add(self, other: Steps) -> Steps {
-        Steps(self.0 + other.0)
+        Steps(self.0.saturating_add(other.0))
     }
 }
 
 impl Sub for Steps {
     type Output = Steps;
 
-    ghost can_sub = { λ x y. FitsSigned w64 (x.0 -ℤ y.0) };
-
-    ghost sub_gives = { λ x y r. r ≡ steps_of (x.0 -ℤ y.0) };
+    ghost sub_gives = { λ x y r. r ≡ steps_of (saturate_signed w64 (x.0 -ℤ y.0)) };
 
     fn sub(self, other: Steps) -> Steps {
-        Steps(self.0 - other.0)
+        Steps(self.0.saturating_sub(other.0))
     }
 }
 

@@ -9,6 +9,8 @@ use Rattle.crossing.specs.Crossing.{crossing, lower_of, active_level}
 use Rattle.crossing.specs.Levels.{long_term}
 use Rattle.crossing.specs.Searched.{said, searched, levels_for, levels_at, crossing_in, first_excess}
 use Rattle.crossing.proofs.Sizes.{level_read}
+use Rattle.level.proofs.Laws.{uncut}
+use Rattle.std.proofs.lemmas.Int.{ints}
 use Rattle.crossing.proofs.find_levels.Goals as goal
 
 read_at : (M S : ℤ) (n sq j lower : ℕ) (T : Thresholds) (a : List Samples) (L A C F : Steps) → S ≡ pos (lev sq) → Some j ≡ crossing M S T a
@@ -26,4 +28,4 @@ returns-in_default c = grind (arith, level_read)
 pub returns : goal.returns
 returns c =
     read_at _ _ _ _ _ _ _ _ _ _ _ _ (c.or_zero.ensures ∙ (level_read _ _ c.level.ensures c.requires.sq_pos c.requires.sq_max).0) c.in-Some.ensures
-    c.level_over-level.ensures.value c.active_at-active.ensures.level c.active_at-active.ensures.lower c.sub.ensures c.sub-2.ensures
+    c.level_over-level.ensures.value c.active_at-active.ensures.level c.active_at-active.ensures.lower (rw (uncut (c.active_at-active.result.level.0 -ℤ c.args.margin.0) (omega (arith, ints))) at c.sub.ensures) (rw (uncut (c.level_over-level.result.0 -ℤ c.active_at-active.result.level.0) (omega (arith, ints))) at c.sub-2.ensures)
