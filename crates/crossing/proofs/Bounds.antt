@@ -31,11 +31,11 @@ unfolding above below
 parts_of (pos n) x y e = omega (arith, ints)
 parts_of (negsuc n) x y e = omega (arith, ints)
 
-balance : (x y : ℕ) → x + below (pos x -ℤ pos y) ≡ y + above (pos x -ℤ pos y)
+pub balance : (x y : ℕ) → x + below (pos x -ℤ pos y) ≡ y + above (pos x -ℤ pos y)
 balance x y = parts_of _ x y refl
 
 -- sq^4096·2^d < 2^u·e^4096, where lev(sq) + 2 + d = g + u, g ≤ lev(a) and a ≤ e
-plus_two : (sq a e g u d : ℕ) → 1 ≤ sq → sq ≤ 2 ^ 80 → 1 ≤ a → a ≤ 2 ^ 80 → a ≤ e → g ≤ lev a → lev sq + 2 + d ≡ g + u → sq ^ 4096 * 2 ^ d < 2 ^ u * e ^ 4096
+pub plus_two : (sq a e g u d : ℕ) → 1 ≤ sq → sq ≤ 2 ^ 80 → 1 ≤ a → a ≤ 2 ^ 80 → a ≤ e → g ≤ lev a → lev sq + 2 + d ≡ g + u → sq ^ 4096 * 2 ^ d < 2 ^ u * e ^ 4096
 plus_two sq a e g u d s0 s1 a0 a1 l h b =
     lt_of_lt_of_le (mul-lt-mul_of_pos_right (facts.less_than sq s0 s1) (pow_pos d))
     (le_trans (le_of_eq (sym (pow-add 2 (lev sq + 2) d)))
@@ -43,7 +43,7 @@ plus_two sq a e g u d s0 s1 a0 a1 l h b =
     (le_trans (le_of_eq (pow-add 2 u (lev a))) (mul-le-mul_left (2 ^ u) (le_trans (facts.at_most a a0 a1) (pow-le-pow_left l 4096))))))
 
 -- 2^u·e^4096 < 4·2^d·sq^4096, where lev(sq) + d = g + u, lev(a) ≤ g and e ≤ a
-less_two : (sq a e g u d : ℕ) → 1 ≤ sq → sq ≤ 2 ^ 80 → 1 ≤ a → a ≤ 2 ^ 80 → e ≤ a → lev a ≤ g → lev sq + d ≡ g + u → 2 ^ u * e ^ 4096 < 4 * 2 ^ d * sq ^ 4096
+pub less_two : (sq a e g u d : ℕ) → 1 ≤ sq → sq ≤ 2 ^ 80 → 1 ≤ a → a ≤ 2 ^ 80 → e ≤ a → lev a ≤ g → lev sq + d ≡ g + u → 2 ^ u * e ^ 4096 < 4 * 2 ^ d * sq ^ 4096
 less_two sq a e g u d s0 s1 a0 a1 l h b =
     lt_of_le_of_lt (mul-le-mul_left (2 ^ u) (pow-le-pow_left l 4096))
     (lt_of_lt_of_le (mul-lt-mul_of_pos_left (facts.less_than a a0 a1) (pow_pos u))

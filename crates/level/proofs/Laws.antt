@@ -1,6 +1,6 @@
 -- The three facts about lev: `facts`, by which the crates above know it. The place of the highest one bit and the start m bound n on both sides,
 -- and the squarings carry both bounds to n^4096.
-use Rattle.std.proofs.Common.{◌≡◌, ℕ, zero, suc, ◌+◌, ◌*◌, ◌/◌, ◌^◌, ◌<◌, ◌≤◌, pos, sym, ap, ◌∙◌, subst, le_trans, le_of_eq, lt_of_lt_of_le, le_of_suc-le-suc, lt_of_le_of_lt, mul-le-mul_right, mul_assoc, mul_comm, div-lt_iff_lt-mul, le_antisymm, lt_of_mul-lt-mul_right, mul-le-mul_left, mul-lt-mul_of_pos_right, pow-suc, lt_of_not-le, le-div_iff_mul-le, not-le_of_lt, div-mul-le_self, le_of_mul-le-mul_right, arith, pow_pos, pow_mono, pow-add, le-leb}
+use Rattle.std.proofs.Common.{◌≡◌, refl, ℕ, zero, suc, ◌+◌, ◌*◌, ◌/◌, ◌^◌, ◌<◌, ◌≤◌, pos, sym, ap, ◌∙◌, subst, le_trans, le_of_eq, lt_of_lt_of_le, le_of_suc-le-suc, lt_of_le_of_lt, mul-le-mul_right, mul_assoc, mul_comm, div-lt_iff_lt-mul, le_antisymm, lt_of_mul-lt-mul_right, mul-le-mul_left, mul-lt-mul_of_pos_right, pow-suc, lt_of_not-le, le-div_iff_mul-le, not-le_of_lt, div-mul-le_self, le_of_mul-le-mul_right, arith, pow_pos, pow_mono, pow-add, le-leb}
 use native.Mathlib.Nat.{one-le-pow, pow-le-pow_left, lt-div-mul-add}
 use native.Mathlib.Decide.{dec_le}
 use lib.Pow.{shr_mono}
@@ -131,11 +131,21 @@ pub level_exists : (n : ℕ) → 1 ≤ n → n ≤ 2 ^ 80 → level_of n ≡ Som
 unfolding level_of
 level_exists n h u = simp (le-leb 1 n h, le-leb n (2 ^ 80) u)
 
+pub level_some : (n : ℕ) (r : Option Steps) → 1 ≤ n → n ≤ 2 ^ 80 → value_of r ≡ level_of n → r ≡ None → ⊥
+unfolding value_of
+level_some n r h u e f = let q = e ∙ level_exists n h u in cc
+
 -- an answer for a number in range holds its level
 pub level_known : (n : ℕ) (r : Option Steps) → 1 ≤ n → n ≤ 2 ^ 80 → value_of r ≡ level_of n → steps_in r ≡ pos (lev n)
 unfolding value_of
 level_known n (Some s) h u e = let q = e ∙ level_exists n h u in cc
 level_known n None h u e = let q = e ∙ level_exists n h u in cc
+
+-- and one for any other number holds 0
+pub level_unknown : (n : ℕ) (r : Option Steps) → level_of n ≡ None → value_of r ≡ level_of n → steps_in r ≡ pos 0
+unfolding value_of
+level_unknown n (Some s) f e = cc
+level_unknown n None f e = refl
 
 -- ---- a sum or a difference of steps that the ends of 64 bits do not cut is itself
 

@@ -9,30 +9,30 @@ use Rattle.level.specs.Logarithm.{bit, next, spell}
 use Rattle.level.proofs.Powers.{pow_one, pow_mul, square_pow}
 
 -- what a step divides by
-abbrev by : ℕ → ℕ
+abbrev pub by : ℕ → ℕ
 by t = 2 ^ 31 * 2 ^ bit t
 
 -- ---- one step
 
-next_low : (t : ℕ) → next t * by t ≤ t
+pub next_low : (t : ℕ) → next t * by t ≤ t
 unfolding next bit
 next_low t = grind (arith, nat_tests)
 
-next_up : (t : ℕ) → t < (next t + 1) * by t
+pub next_up : (t : ℕ) → t < (next t + 1) * by t
 unfolding next bit
 next_up t = grind (arith, nat_tests)
 
-next_fits : (t : ℕ) → t < 2 ^ 64 → next t < 2 ^ 32
+pub next_fits : (t : ℕ) → t < 2 ^ 64 → next t < 2 ^ 32
 unfolding next
 next_fits t h = grind (arith, nat_tests)
 
-square_fits : {m : ℕ} → m < 2 ^ 32 → m * m < 2 ^ 64
+pub square_fits : {m : ℕ} → m < 2 ^ 32 → m * m < 2 ^ 64
 square_fits {m} h =
     let g : m ≤ 2 ^ 32 - 1 = omega arith in
     let p : m * m ≤ (2 ^ 32 - 1) * (2 ^ 32 - 1) = mul-le-mul g g in
     omega arith
 
-next_stays : (m : ℕ) → 2 ^ 31 ≤ m → 2 ^ 31 ≤ next (m * m)
+pub next_stays : (m : ℕ) → 2 ^ 31 ≤ m → 2 ^ 31 ≤ next (m * m)
 unfolding next
 next_stays m h = let p : 2 ^ 31 * 2 ^ 31 ≤ m * m = mul-le-mul h h in grind (arith, nat_tests)
 
@@ -48,7 +48,7 @@ thrice m e h l = grind (arith, nat_tests, root)
 carry : (m e n d : ℕ) → m * m < (n + 1) * d → 2 * m + e ≤ 3 * d → (m + e) * (m + e) ≤ (n + (3 * e + 1)) * d
 carry m e n d h l = let p : e * (2 * m + e) ≤ e * (3 * d) = mul-le-mul_left e l in omega arith
 
-next_carry : (m e : ℕ) → m < 2 ^ 32 → e ≤ 2 ^ 28 → (m + e) * (m + e) ≤ (next (m * m) + (3 * e + 1)) * by (m * m)
+pub next_carry : (m e : ℕ) → m < 2 ^ 32 → e ≤ 2 ^ 28 → (m + e) * (m + e) ≤ (next (m * m) + (3 * e + 1)) * by (m * m)
 next_carry m e h l = carry m e (next (m * m)) (by (m * m)) (next_up (m * m)) (thrice m e h l)
 
 -- ---- k steps, from below: 2^spell times (2^31)^(2^k) is at most m^(2^k)
@@ -110,7 +110,7 @@ up (suc k) m e h l =
 
 -- ---- order
 
-bit_le : (t : ℕ) → bit t ≤ 1
+pub bit_le : (t : ℕ) → bit t ≤ 1
 unfolding bit
 bit_le t = grind (arith, nat_tests)
 

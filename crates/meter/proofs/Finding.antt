@@ -19,7 +19,7 @@ use Rattle.meter.specs.Reports.{margin_of, list_of, crossing_of, first_of_meter}
 use Rattle.meter.proofs.Outcome.{at_15, at_16, at_0}
 
 -- what is handed back for it
-abbrev handed_for : Searched → Meter → HandedReport
+abbrev pub handed_for : Searched → Meter → HandedReport
 handed_for s m = cond (eqb s.number 0) (reported_with s.levels m) (refused_report s.number m)
 
 module _ (m : Meter) (t : Tested m) where
@@ -32,7 +32,7 @@ module _ (m : Meter) (t : Tested m) where
       go false p = at_16 m t e p
   by_crossing (Some j) e = at_0 m t j e
 
-  by_found : (f : Result Levels NoCrossing) → said f ≡ searched (margin_of m) m.state.sums.n.0 (two_words m.state.sums.sq) (list_of m) m.state.a → handed_for (said f) m ≡ report_call m
+  pub by_found : (f : Result Levels NoCrossing) → said f ≡ searched (margin_of m) m.state.sums.n.0 (two_words m.state.sums.sq) (list_of m) m.state.a → handed_for (said f) m ≡ report_call m
   unfolding searched crossing_of
   by_found f s = ap (λ (x : Searched). handed_for x m) s ∙ by_crossing (crossing_of m) refl
 

@@ -1,4 +1,4 @@
--- What the crates above know of a named rate, whichever it is: `row_keeps` and `named_small`. Only this file goes through the table's rows.
+-- What the crates above know of a named rate, whichever it is: `row_keeps`, `named_code` and `named_small`. Only this file goes through the table's rows.
 use mathlib.Core.Bool.{Bool, true, false, cond}
 use Rattle.std.specs.Prelude.{Option, Some, None, is_some, unwrap_or}
 use mathlib.Core.Path.{◌≡◌, refl, sym, ap, subst}
@@ -58,7 +58,7 @@ Figures r =
 named_figures : (code : ℕ) (r : Rate) → rate_of code ≡ Some r → Figures r
 named_figures = each_row (λ code r. Figures r) (omega arith)
 
--- by computation: at the last rate the numbers have Some 30000 bits
+-- by computation: at the last rate the numbers have some 30000 bits
 named_time : (code : ℕ) (r : Rate) → rate_of code ≡ Some r → keeps_time r.hertz r.k ≡ true
 unfolding lasts_at_least lasts_at_most keeps_time
 named_time = each_row (λ code r. keeps_time r.hertz r.k ≡ true) (refl, refl, refl, refl, refl)
@@ -67,6 +67,9 @@ pub named_keeps : (code : ℕ) (r : Rate) → rate_of code ≡ Some r → Keeps 
 named_keeps code r e =
     let f = named_figures code r e in
     record { k_low = f.0; k_high = f.1; time_rule = named_time code r e; i_rule = ceiling f.2 f.3; d_rule = ceiling f.4 f.5 }
+
+pub named_code : (code : ℕ) (r : Rate) → rate_of code ≡ Some r → r.code ≡ code
+named_code = each_row (λ code r. r.code ≡ code) (refl, refl, refl, refl, refl)
 
 -- ---- e, in the rule of the smoothing time
 

@@ -1,5 +1,5 @@
 -- The built-in list, and what a list that loads is.
-use mathlib.Core.Bool.{Bool, false, ◌||◌}
+use mathlib.Core.Bool.{Bool, true, false, ◌||◌}
 use mathlib.Core.Logic.{⊎_elim}
 use mathlib.Core.Path.{◌≡◌, refl, sym, ap, ◌∙◌, subst}
 use Prim.Native.Nat.{ℕ, zero, suc, ◌+◌, ◌-◌, ◌*◌, ◌^◌, ◌≤◌, ◌<◌}
@@ -51,6 +51,10 @@ built_in_loads = refl
 pub accepted_loads : (t : Thresholds) → 0 ≡ first_of (list_rules t) → false ≡ unloadable t
 unfolding list_rules unloadable first_of
 accepted_loads t e = grind (arith, nat_tests)
+
+pub refused_unloadable : (k : ℕ) (t : Thresholds) → 0 < k → k ≡ first_of (list_rules t) → true ≡ unloadable t
+unfolding list_rules unloadable first_of
+refused_unloadable k t l e = grind (arith, nat_tests)
 
 pub record Loaded (t : Thresholds) : Type 0 where
   pub least : fewest ≤ t.count
