@@ -18,7 +18,7 @@ fn main(rt: HostRuntime) {
     streams.ready(65543);
     let meter = measured(streams.ahead(65543));
     streams.print(MeterLine(&meter));
-    streams.closed("bench");
+    streams.closed(b"bench");
 }
 
 // The meter after an input.

@@ -26,7 +26,7 @@ fn main(rt: HostRuntime) {
         }
         None => page::told(
             &rt.stderr(),
-            "blocks takes at most two words, a rate code from 1 to 5 and a number k from 1 to 999999999: it reads signed samples of two bytes, the low byte first, from standard input, and writes sample blocks of the first of them and every k-th after it\n",
+            b"blocks takes at most two words, a rate code from 1 to 5 and a number k from 1 to 999999999: it reads signed samples of two bytes, the low byte first, from standard input, and writes sample blocks of the first of them and every k-th after it\n",
         ),
     }
 }

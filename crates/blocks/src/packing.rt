@@ -55,7 +55,7 @@ impl Packing {
             }
             Err(_) => self
                 .streams
-                .told("blocks: no block may end above 2^48 samples\n"),
+                .told(b"blocks: no block may end above 2^48 samples\n"),
         }
         self.taking.samples.clear();
         made
@@ -66,12 +66,15 @@ impl Packing {
         if !self.taking.samples.is_empty() {
             let _ = self.pack();
         }
-        self.streams.closed("blocks");
+        self.streams.closed(b"blocks");
         if self.streams.has_ended() && self.streams.unused() != 0 {
             let bytes = self.streams.read();
-            self.streams.told(format_args!(
-                "blocks: the input ends inside a sample: of its {bytes} bytes the last is left out\n"
-            ));
+            self.streams.told_by(
+                b"blocks",
+                format_args!(
+                    "the input ends inside a sample: of its {bytes} bytes the last is left out"
+                ),
+            );
         }
     }
 }

@@ -5,5 +5,6 @@ mod source;
 mod streams;
 mod words;
 
+pub use source::{Coming, Source};
 pub use streams::Streams;
 pub use words::has_word;

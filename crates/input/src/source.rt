@@ -18,7 +18,7 @@ pub enum Coming {
 // A buffer with the bytes that are read and not yet used, from `at` up to `end`; how many were read in
 // all; and how reading goes. It has two ends, where an ArrayVec has one: the bytes stay in place as they
 // are used.
-#[derive(Drop)]
+#[derive(Clone, Copy)]
 pub struct Source<const N: usize> {
     buffer: [u8; N],
     at: usize,

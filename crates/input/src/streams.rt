@@ -6,12 +6,12 @@ ghost use Rattle.std.specs.Io.{StartsWith};
 ghost use Rattle.input.specs.declared.source.Coming.TheVariants.{More, End};
 
 use crate::source::{Coming, Source};
-use page::Page;
+use page::{Page, SystemError};
 use std::fmt::Display;
 
 // What is read comes from standard input through a buffer of `IN` bytes, and what is written goes to
 // standard output by pages of `OUT` bytes.
-#[derive(Drop)]
+#[derive(Clone, Copy)]
 pub struct Streams<const IN: usize, const OUT: usize> {
     source: Source<IN>,
     page: Page<OUT>,
@@ -105,11 +105,25 @@ impl<const IN: usize, const OUT: usize> Streams<IN, OUT> {
         0
     }
 
+    // How reading goes.
+    pub fn reading(&self) -> Result<Coming, SystemError>
+        ensures { result ≡ reading_of self.now }
+    {
+        self.source.reading
+    }
+
+    // How writing goes.
+    pub fn writing(&self) -> Result<(), SystemError>
+        ensures { result ≡ writing_of self.now }
+    {
+        self.page.writing()
+    }
+
     // Whether all of the input was read.
     pub fn has_ended(&self) -> bool
         ensures { IsTrue result ↔ (reading_of self.now ≡ Ok End) }
     {
-        self.source.reading == Ok(Coming::End)
+        self.reading() == Ok(Coming::End)
     }
 
     // Whether no write has failed.
@@ -150,24 +164,33 @@ impl<const IN: usize, const OUT: usize> Streams<IN, OUT> {
     }
 
     // Says a line on standard error.
-    pub fn told<D: Display + Drop>(&self, line: D) {
+    pub fn told(&self, line: &[u8]) {
         page::told(&self.rt.stderr(), line);
     }
 
+    // Says a line that begins with the program's name.
+    pub fn told_by<D: Display + Drop>(&self, program: &[u8], line: D) {
+        page::told_by(&self.rt.stderr(), program, line);
+    }
+
     // Writes all that waits, and says on standard error what failed, where something did.
-    pub fn closed(&mut self, program: &str)
+    pub fn closed(&mut self, program: &[u8])
         ensures waiting { waiting_of self.new ≡ [] }
         ensures failed { StaysFailed (writing_of self.old) (writing_of self.new) }
     {
-        if let Err(error) = self.source.reading {
-            let bytes = self.source.read;
-            self.told(format_args!(
-                "{program}: reading standard input failed after {bytes} bytes: {error}\n"
-            ));
+        if let Err(error) = self.reading() {
+            let bytes = self.read();
+            self.told_by(
+                program,
+                format_args!("reading standard input failed after {bytes} bytes: {error}"),
+            );
         }
         self.page.write_out(&self.rt.stdout());
-        if let Err(error) = self.page.writing() {
-            self.told(format_args!("{program}: writing standard output failed: {error}\n"));
+        if let Err(error) = self.writing() {
+            self.told_by(
+                program,
+                format_args!("writing standard output failed: {error}"),
+            );
         }
     }
 }

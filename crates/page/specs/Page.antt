@@ -2,9 +2,10 @@
 use Rattle.std.specs.Prelude.{◌≡◌, ℕ, ◌+◌, ◌≤◌, ◌<◌, List, ◌++◌, length, take, Result, IsErr}
 use Rattle.page.specs.declared.errors.SystemError.{SystemError}
 use Rattle.page.specs.declared.page.Page.{Page}
+use Rattle.page.specs.Waiting.{held_by}
 
 abbrev pub waiting_of : {N : ℕ} → Page N → List ℕ
-waiting_of page = page.waiting.bytes.items
+waiting_of page = held_by page.waiting
 
 abbrev pub writing_of : {N : ℕ} → Page N → Result Unit SystemError
 writing_of page = page.writing

@@ -5,7 +5,7 @@ ghost use Rattle.page.specs.SystemError.{number_of, IsInterruption};
 
 use std::{fmt, io};
 
-const EINTR: i32 = 4;
+pub const EINTR: i32 = 4;
 
 const EIO: i32 = 5;
 
@@ -26,11 +26,18 @@ const EPIPE: i32 = 32;
 pub struct SystemError(i32);
 
 impl SystemError {
+    // The system's number.
+    pub fn number(self) -> i32
+        ensures { result ≡ number_of self }
+    {
+        self.0
+    }
+
     // Whether a signal came before the call did anything.
     pub(crate) fn is_interrupted(self) -> bool
         ensures { IsTrue result ↔ IsInterruption self }
     {
-        self.0 == EINTR
+        self.number() == EINTR
     }
 
     // What it means, for those that the programs can meet. It goes by the number and not by an ErrorKind,

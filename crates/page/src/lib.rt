@@ -6,7 +6,9 @@ mod errors;
 mod page;
 mod sending;
 mod tries;
+mod waiting;
 
-pub use errors::SystemError;
-pub use page::{Page, told};
+pub use errors::{EINTR, SystemError};
+pub use page::{Page, told, told_by};
+pub use sending::sent;
 pub use tries::Tries;

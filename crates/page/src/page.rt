@@ -3,35 +3,18 @@
 // write into one pipe or one log. A longer line than a page comes in pieces: only the line that shows
 // a buffer of more than 513 bytes is put so. In `blocks` what waits are blocks, on a page of its own
 // size.
-ghost use Rattle.std.specs.Prelude.{◌≡◌, ◌↔◌, [], ◌++◌, IsOk, IsTrue};
+ghost use Rattle.std.specs.Prelude.{◌≡◌, ◌↔◌, [], IsOk, IsTrue};
 ghost use Rattle.page.specs.Page.{waiting_of, writing_of, StaysFailed, IsPut};
 
 use crate::SystemError;
 use crate::sending::sent;
-use arrayvec::ArrayVec;
+use crate::waiting::Waiting;
 use std::fmt;
 use std::fmt::{Display, Write};
 
-// Bytes that wait to be written.
-#[derive(Drop)]
-struct Waiting<const N: usize> {
-    bytes: ArrayVec<u8, N>,
-}
-
-// Text goes behind what waits, as far as there is room.
-impl<const N: usize> Write for Waiting<N> {
-    ghost write_str_gives = { λ old text new. new.bytes.items ≡ old.bytes.items ++ text };
-
-    fn write_str(&mut self, text: &str) -> fmt::Result {
-        self.bytes
-            .try_extend_from_slice(text.as_bytes())
-            .map_err(|_| fmt::Error)
-    }
-}
-
 // What waits to be written, and how writing goes: well, or a write failed. A page knows no descriptor:
 // who prints is lent to each method that may write.
-#[derive(Drop)]
+#[derive(Clone, Copy)]
 pub struct Page<const N: usize> {
     waiting: Waiting<N>,
     writing: Result<(), SystemError>,
@@ -44,9 +27,7 @@ impl<const N: usize> Page<N> {
         ensures well { IsOk (writing_of result) }
     {
         Page {
-            waiting: Waiting {
-                bytes: ArrayVec::new(),
-            },
+            waiting: Waiting::new(),
             writing: Ok(()),
         }
     }
@@ -55,10 +36,10 @@ impl<const N: usize> Page<N> {
     pub fn put<P: Print>(&mut self, to: &P, bytes: &[u8])
         ensures { IsPut N bytes.now (waiting_of self.old) (waiting_of self.new) (writing_of self.old) (writing_of self.new) }
     {
-        if self.waiting.bytes.try_extend_from_slice(bytes).is_err() {
+        if self.waiting.put(bytes).is_err() {
             self.write_out(to);
             let fitting = bytes.len().min(N);
-            let _ = self.waiting.bytes.try_extend_from_slice(&bytes[..fitting]);
+            let _ = self.waiting.put(&bytes[..fitting]);
         }
     }
 
@@ -66,9 +47,9 @@ impl<const N: usize> Page<N> {
     pub fn print<P: Print, D: Display + Drop>(&mut self, to: &P, line: D)
         ensures failed { StaysFailed (writing_of self.old) (writing_of self.new) }
     {
-        let before = self.waiting.bytes.len();
+        let before = self.waiting.held().len();
         if write!(self.waiting, "{line}").is_err() {
-            self.waiting.bytes.truncate(before);
+            self.waiting.keep(before);
             self.write_out(to);
             let _ = write!(self.waiting, "{line}");
         }
@@ -81,9 +62,9 @@ impl<const N: usize> Page<N> {
         ensures failed { StaysFailed (writing_of self.old) (writing_of self.new) }
     {
         if self.is_well() {
-            self.writing = sent(to, self.waiting.bytes.as_slice());
+            self.writing = sent(to, self.waiting.held());
         }
-        self.waiting.bytes.clear();
+        self.waiting.keep(0);
     }
 
     // Whether no write has failed.
@@ -117,13 +98,18 @@ impl<P: Print> Write for Said<'_, P> {
     }
 }
 
-// Says a line on standard error, by one write where it has at most 512 bytes. Where that fails there is
-// nowhere to say so.
-pub fn told<P: Print, D: Display + Drop>(to: &P, line: D) {
+// Says a line on standard error, by one write. Where that fails there is nowhere to say so.
+pub fn told<P: Print>(to: &P, line: &[u8]) {
+    let _ = sent(to, line);
+}
+
+// Says a line that begins with a program's name, by one write where it has at most 512 bytes.
+pub fn told_by<P: Print, D: Display + Drop>(to: &P, program: &[u8], line: D) {
     let mut said = Said {
         page: Page::new(),
         to,
     };
-    let _ = write!(said, "{line}");
+    said.page.put(to, program);
+    let _ = writeln!(said, ": {line}");
     said.page.write_out(to);
 }

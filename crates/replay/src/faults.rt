@@ -35,7 +35,7 @@ impl fmt::Display for Fault {
 pub fn word<P: Print>(to: &P) {
     page::told(
         to,
-        "replay takes no words: it reads records of calls from standard input, as crates/replay/src/main.rt has them, and prints a line for each\n",
+        b"replay takes no words: it reads records of calls from standard input, as crates/replay/src/main.rt has them, and prints a line for each\n",
     );
 }
 
@@ -53,9 +53,12 @@ impl Player {
     // Writes what waits, and says what is wrong with the k-th record, where it is bad.
     pub fn end(&mut self, k: u64, place: u64, stop: Stop) {
         if let Stop::Bad(fault) = stop {
-            self.streams.told(format_args!("replay: record {k} at byte {place}: {fault}\n"));
+            self.streams.told_by(
+                b"replay",
+                format_args!("record {k} at byte {place}: {fault}"),
+            );
             self.streams.print(format_args!("bad record {k}\n"));
         }
-        self.streams.closed("replay");
+        self.streams.closed(b"replay");
     }
 }

@@ -18,7 +18,7 @@ fn main(rt: HostRuntime) {
     if input::has_word(rt, 1) {
         page::told(
             &rt.stderr(),
-            "report takes no words: it reads sample blocks of 512 bytes from standard input, and prints a line for each that is refused and then those about the measurement\n",
+            b"report takes no words: it reads sample blocks of 512 bytes from standard input, and prints a line for each that is refused and then those about the measurement\n",
         );
         return;
     }
@@ -74,7 +74,7 @@ impl Measurement {
         if self.streams.is_well() && self.streams.has_ended() {
             self.streams.print(ClosingLines(&self.meter));
         }
-        self.streams.closed("report");
+        self.streams.closed(b"report");
     }
 }
 
