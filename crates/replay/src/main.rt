@@ -46,7 +46,11 @@ fn main(rt: HostRuntime) {
         faults::word(&rt.stderr());
         return;
     }
-    Player::new(rt).play();
+    let mut player = Player {
+        meter: Meter::open(Setting::usual(0)).meter,
+        streams: Streams::new(rt),
+    };
+    player.play();
 }
 
 // The meter, and what is read and written.
@@ -57,13 +61,6 @@ pub struct Player {
 }
 
 impl Player {
-    fn new(rt: HostRuntime) -> Player {
-        Player {
-            meter: Meter::open(Setting::usual(0)).meter,
-            streams: Streams::new(rt),
-        }
-    }
-
     // Plays all records.
     fn play(&mut self) {
         for k in 1..u64::MAX {
