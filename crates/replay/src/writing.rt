@@ -11,6 +11,9 @@ use std::fmt;
 // Bytes of this number are in the buffer before the call.
 const HELD: u8 = 165;
 
+// The digits of hexadecimal.
+const DIGITS: &[u8; 16] = b"0123456789abcdef";
+
 impl Player {
     // Makes a block of the samples that are kept, once all of the record came, and shows the buffer.
     pub fn write(&mut self, record: Record) -> Result<(), Stop> {
@@ -78,8 +81,16 @@ impl fmt::Display for Piece<'_> {
             let space = if self.bytes.is_empty() { "" } else { " " };
             write!(f, "write {number}{space}")?;
         }
-        for byte in self.bytes {
-            write!(f, "{byte:02x}")?;
+        // By pieces, each shown at once: `{byte:02x}` would take some four times as long.
+        for piece in self.bytes.chunks(64) {
+            let mut digits = [0; 128];
+            for (j, &byte) in piece.iter().enumerate() {
+                digits[2 * j] = DIGITS[usize::from(byte / 16)];
+                digits[2 * j + 1] = DIGITS[usize::from(byte % 16)];
+            }
+            let end = digits.len().min(2 * piece.len());
+            let text = str::from_utf8(&digits[..end]).map_err(|_| fmt::Error)?;
+            f.write_str(text)?;
         }
         Ok(())
     }
