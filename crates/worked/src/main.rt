@@ -2,7 +2,7 @@
 #![tactic(auto)]
 
 use level::{MOST_SAMPLES, Samples, Squares};
-use meter::{Fed, Meter, Reported};
+use meter::{Fed, Meter};
 use page::Page;
 use print::{Given, ReportLine};
 use sample::{State, Sums};
@@ -15,7 +15,8 @@ fn main(rt: HostRuntime) {
     for given in answers() {
         page.print(&stdout, given);
     }
-    for reported in reports() {
+    for (n, squares, a) in measured() {
+        let reported = handed_in(n, squares, a).report();
         page.print(&stdout, ReportLine(&reported));
     }
     page.write_out(&stdout);
@@ -42,8 +43,8 @@ fn given(name: &'static str, fed: Fed) -> Given<'static> {
     }
 }
 
-// The four reports on meters that are handed in.
-fn reports() -> [Reported; 4] {
+// Of the four meters that are reported on n, the squares and the counts.
+fn measured() -> [(u64, u64, [u64; PLACES]); 4] {
     let mut eighth = [0; PLACES];
     eighth[..8].fill(4096);
     let mut half = eighth;
@@ -51,10 +52,10 @@ fn reports() -> [Reported; 4] {
     let mut lowest = [0; PLACES];
     lowest[0] = 32768;
     [
-        handed_in(16384, 1073741824, eighth).report(),
-        handed_in(16384, 1073741824, half).report(),
-        handed_in(32768, 1275068, lowest).report(),
-        handed_in(32768, 1048576, lowest).report(),
+        (16384, 1073741824, eighth),
+        (16384, 1073741824, half),
+        (32768, 1275068, lowest),
+        (32768, 1048576, lowest),
     ]
 }
 
