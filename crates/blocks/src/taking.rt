@@ -8,7 +8,7 @@ use arrayvec::ArrayVec;
 pub struct Taking {
     pub samples: ArrayVec<i16, 248>,
     skip: usize,
-    k: usize,
+    k: u32,
 }
 
 impl Taking {
@@ -17,7 +17,7 @@ impl Taking {
         Taking {
             samples: ArrayVec::new(),
             skip: 0,
-            k: asked.k.get() as usize, // as: u32 has no From to usize
+            k: asked.k.get(),
         }
     }
 
@@ -30,7 +30,7 @@ impl Taking {
         for _ in 0..self.samples.remaining_capacity() {
             let Some(pair) = pairs.get(place) else { break };
             let _ = self.samples.try_push(i16::from_le_bytes(*pair));
-            place = place.saturating_add(self.k);
+            place += self.k as usize; // as: u32 has no From to usize
         }
         let done = place.min(pairs.len());
         self.skip = place - done;
