@@ -94,7 +94,7 @@ accepted_sound b code n h =
       e,
     )
 
-refused_unsound : (b : List ℕ) (code n : ℕ) → rate_code b ≡ code → 0 < n → n ≡ first_of (block_rules b code) → sound b ≡ false
+pub refused_unsound : (b : List ℕ) (code n : ℕ) → rate_code b ≡ code → 0 < n → n ≡ first_of (block_rules b code) → sound b ≡ false
 refused_unsound b code n e p h = go (sound b) refl
   where
     go : (t : Bool) → sound b ≡ t → sound b ≡ false

@@ -42,7 +42,7 @@ unfolding write_call write_rules rising
 write_given code n xs buffer = given_lowest (write_rules code n xs buffer) refl
 
 -- what the code finds, one after another: a rule that applies, with the buffer as it was, or none
-by_rule : (k code n : ℕ) (xs : List ℤ) (buffer : List ℕ) → 0 < k → k ≡ first_of (write_rules code n xs buffer)
+pub by_rule : (k code n : ℕ) (xs : List ℤ) (buffer : List ℕ) → 0 < k → k ≡ first_of (write_rules code n xs buffer)
     → told_with k buffer ≡ write_call code n xs buffer
 unfolding write_call
 by_rule k code n xs buffer h e =
