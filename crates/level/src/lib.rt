@@ -31,8 +31,7 @@ pub struct Units(u64);
 
 // A sum of squares, in two words, as `two_words` and a report have it. The high one comes first, so the
 // order is that of the sums.
-#[derive(Clone, Copy, Debug)]
-#[derive(PartialEq, Eq, PartialOrd, Ord)] // on a line of its own, so that an edit can change it
+#[derive(Clone, Copy, Debug, PartialEq, Eq, PartialOrd, Ord)]
 pub struct Squares {
     pub high: u64,
     pub low: u64,
