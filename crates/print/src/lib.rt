@@ -103,7 +103,7 @@ pub struct Counts<'a>(pub &'a [Samples]);
 impl Display for Counts<'_> {
     fn fmt<W: fmt::Write>(&self, f: &mut Formatter<W>) -> fmt::Result {
         for count in self.0 {
-            write!(f, " {}", count.number())?;
+            spaced(count.number(), f)?;
         }
         Ok(())
     }
@@ -136,8 +136,16 @@ struct Numbers<'a>(&'a [u64]);
 impl Display for Numbers<'_> {
     fn fmt<W: fmt::Write>(&self, f: &mut Formatter<W>) -> fmt::Result {
         for x in self.0 {
-            write!(f, " {x}")?;
+            spaced(*x, f)?;
         }
         Ok(())
     }
+}
+
+// A number after a space. By `itoa`, since a meter has 72 of them: by `write!` its line would take half
+// as long again.
+fn spaced<W: fmt::Write>(x: u64, f: &mut Formatter<W>) -> fmt::Result {
+    let mut digits = itoa::Buffer::new();
+    f.write_str(" ")?;
+    f.write_str(digits.format(x))
 }
