@@ -46,6 +46,7 @@ fn main(rt: HostRuntime) {
         faults::word(&rt.stderr());
         return;
     }
+    // Made where it stays: handed back by a function, it was copied twice, and its buffers are large.
     let mut player = Player {
         meter: Meter::open(Setting::usual(0)).meter,
         streams: Streams::new(rt),

@@ -81,7 +81,7 @@ impl fmt::Display for Piece<'_> {
             let space = if self.bytes.is_empty() { "" } else { " " };
             write!(f, "write {number}{space}")?;
         }
-        // By pieces, each shown at once: `{byte:02x}` would take some four times as long.
+        // By pieces, each shown at once: `{byte:02x}` takes ten times the instructions.
         for piece in self.bytes.chunks(64) {
             let mut digits = [0; 128];
             for (j, &byte) in piece.iter().enumerate() {
