@@ -11,7 +11,7 @@ use thresholds::PLACES;
 
 fn main(rt: HostRuntime) {
     let stdout = rt.stdout();
-    let mut page = Page::<2048>::new();
+    let mut page = Page::<1024>::new();
     for given in answers() {
         page.print(&stdout, given);
     }
