@@ -72,7 +72,8 @@ impl Measurement {
     // failed.
     fn close(&mut self) {
         if self.streams.is_well() && self.streams.has_ended() {
-            self.streams.print(ClosingLines(&self.meter));
+            let reported = self.meter.report();
+            self.streams.print(ClosingLines(&reported));
         }
         self.streams.closed(b"report");
     }
@@ -81,18 +82,22 @@ impl Measurement {
 // The closing lines: four from the meter itself, which stand whether or not there is a report, with as many
 // counts as its list has thresholds; and the levels and the percentage, or why there are none.
 #[derive(Clone, Copy)]
-struct ClosingLines<'a>(&'a Meter);
+struct ClosingLines<'a>(&'a Reported);
 
 impl fmt::Display for ClosingLines<'_> {
     fn fmt<W: fmt::Write>(&self, f: &mut fmt::Formatter<W>) -> fmt::Result {
-        let Sums { n, s, sq, .. } = self.0.state.sums;
+        let Reported {
+            answer,
+            meter,
+            report,
+        } = self.0;
+        let Sums { n, s, sq, .. } = meter.state.sums;
         writeln!(f, "samples {}", n.number())?;
         writeln!(f, "sum {s}")?;
         writeln!(f, "squares {} {}", sq.high, sq.low)?;
-        let count = PLACES.min(self.0.setting.thresholds.count);
-        writeln!(f, "counts{}", Counts(&self.0.state.a[..count]))?;
-        let Reported { answer, report, .. } = self.0.report();
-        match answer {
+        let count = PLACES.min(meter.setting.thresholds.count);
+        writeln!(f, "counts{}", Counts(&meter.state.a[..count]))?;
+        match *answer {
             Ok(()) => {
                 writeln!(f, "level{}", LevelsOf(&report.levels))?;
                 writeln!(f, "percent {}", report.percent.number())
