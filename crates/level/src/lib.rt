@@ -53,8 +53,8 @@ impl From<Steps> for i64 {
     }
 }
 
-// A sum, or a difference, that fits 64 bits is given as it is, and in place of another the nearest end of
-// them: `saturate_signed` says both, and a caller is asked for nothing.
+// A sum, or a difference, that does not fit 64 bits is the nearest number that does: `saturate_signed`
+// has both cases, and a caller is asked for nothing.
 impl Add for Steps {
     type Output = Steps;
 

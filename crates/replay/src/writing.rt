@@ -81,14 +81,15 @@ impl fmt::Display for Piece<'_> {
             let space = if self.bytes.is_empty() { "" } else { " " };
             write!(f, "write {number}{space}")?;
         }
-        // By pieces, each shown at once: `{byte:02x}` takes ten times the instructions.
-        for piece in self.bytes.chunks(64) {
+        // So many bytes are shown at once: `{byte:02x}` takes ten times the instructions. No part is longer
+        // than its digits have room for, so the `min` cuts nothing.
+        for part in self.bytes.chunks(64) {
             let mut digits = [0; 128];
-            for (j, &byte) in piece.iter().enumerate() {
+            for (j, &byte) in part.iter().enumerate() {
                 digits[2 * j] = DIGITS[usize::from(byte / 16)];
                 digits[2 * j + 1] = DIGITS[usize::from(byte % 16)];
             }
-            let end = digits.len().min(2 * piece.len());
+            let end = digits.len().min(2 * part.len());
             let text = str::from_utf8(&digits[..end]).map_err(|_| fmt::Error)?;
             f.write_str(text)?;
         }

@@ -11,12 +11,12 @@ use thresholds::PLACES;
 
 fn main(rt: HostRuntime) {
     let stdout = rt.stdout();
-    let mut page = Page::<1024>::new();
+    let mut page = Page::<512>::new();
     for given in answers() {
         page.print(&stdout, given);
     }
-    for (n, squares, a) in measured() {
-        let reported = handed_in(n, squares, a).report();
+    for which in 0..4u8 {
+        let reported = measured(which).report();
         page.print(&stdout, ReportLine(&reported));
     }
     page.write_out(&stdout);
@@ -43,20 +43,28 @@ fn given(name: &'static str, fed: Fed) -> Given<'static> {
     }
 }
 
-// Of the four meters that are reported on n, the squares and the counts.
-fn measured() -> [(u64, u64, [u64; PLACES]); 4] {
-    let mut eighth = [0; PLACES];
-    eighth[..8].fill(4096);
-    let mut half = eighth;
-    half[7] = 2048;
-    let mut lowest = [0; PLACES];
-    lowest[0] = 32768;
-    [
-        (16384, 1073741824, eighth),
-        (16384, 1073741824, half),
-        (32768, 1275068, lowest),
-        (32768, 1048576, lowest),
-    ]
+// The meter that the first, the second, the third or the last report is on.
+fn measured(which: u8) -> Meter {
+    let mut a = [0; PLACES];
+    match which {
+        0 => {
+            a[..8].fill(4096);
+            handed_in(16384, 1073741824, a)
+        }
+        1 => {
+            a[..7].fill(4096);
+            a[7] = 2048;
+            handed_in(16384, 1073741824, a)
+        }
+        2 => {
+            a[0] = 32768;
+            handed_in(32768, 1275068, a)
+        }
+        _ => {
+            a[0] = 32768;
+            handed_in(32768, 1048576, a)
+        }
+    }
 }
 
 // A meter at code 2, with the usual margin and thresholds, whose other fields are zero.
