@@ -1,4 +1,5 @@
--- What the crates above know of a named rate, whichever it is: `row_keeps`, `named_code` and `named_small`. Only this file goes through the table's rows.
+-- What is known of a named rate, whichever it is: `row_keeps` and `named_small`, by which the crates above know it, and `named_code`. Only this file goes
+-- through the table's rows.
 use mathlib.Core.Bool.{Bool, true, false, cond}
 use Rattle.std.specs.Prelude.{Option, Some, None, is_some, unwrap_or}
 use mathlib.Core.Path.{◌≡◌, refl, sym, ap, subst}
