@@ -103,8 +103,8 @@ pub fn told<P: Print>(to: &P, line: &[u8]) {
     let _ = sent(to, line);
 }
 
-// Says a line that begins with a program's name, of which the first 512 bytes are said, by one write where
-// the whole line has no more.
+// Says a line: a program's name, a colon, and what `line` displays. Where that is at most 512 bytes it is
+// one write. Of a longer name only its first 512 bytes are said.
 pub fn told_by<P: Print, D: Display + Drop>(to: &P, program: &[u8], line: D) {
     let mut said = Said {
         page: Page::new(),

@@ -4,8 +4,8 @@ ghost use Rattle.std.specs.Prelude.{◌≡◌, ◌↔◌, ◌+◌, ◌≤◌, []
 use std::fmt;
 use std::fmt::Write;
 
-// Bytes that wait to be written: the first of the array. It is no ArrayVec, which can't be copied, as a
-// page can.
+// Bytes that wait to be written: the first `used` of the array. An ArrayVec would do the same, but it
+// can't be copied, and a page can.
 #[derive(Clone, Copy)]
 pub struct Waiting<const N: usize> {
     bytes: [u8; N],

@@ -142,8 +142,8 @@ impl Display for Numbers<'_> {
     }
 }
 
-// A number after a space. By `itoa`, since a meter has 72 of them: by `write!` its line would take half
-// as long again.
+// A number after a space. By `itoa`, since a meter has 72 of them: by `write!` a line of long numbers
+// takes half as many instructions again.
 fn spaced<W: fmt::Write>(x: u64, f: &mut Formatter<W>) -> fmt::Result {
     let mut digits = itoa::Buffer::new();
     f.write_str(" ")?;

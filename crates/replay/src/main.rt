@@ -46,7 +46,7 @@ fn main(rt: HostRuntime) {
         faults::word(&rt.stderr());
         return;
     }
-    // Made where it stays: handed back by a function, it was copied twice, and its buffers are large.
+    // Made here and not by a function, from which it would be copied twice: its buffers are large.
     let mut player = Player {
         meter: Meter::open(Setting::usual(0)).meter,
         streams: Streams::new(rt),

@@ -43,7 +43,7 @@ fn given(name: &'static str, fed: Fed) -> Given<'static> {
     }
 }
 
-// The meter that the first, the second, the third or the last report is on.
+// The meter of one of the four reports, by the report's place.
 fn measured(which: u8) -> Meter {
     let mut a = [0; PLACES];
     match which {
